@@ -1,0 +1,194 @@
+//! The calls `tweener.*`, `lfo.*` and `mod.*`.
+
+use std::collections::HashMap;
+
+use atomic_arena::Key;
+
+use crate::{
+    Tween, Value,
+    modulator::{
+        Modulator, ModulatorBuilder, ModulatorId,
+        lfo::{LfoBuilder, LfoHandle},
+        tweener::{TweenerBuilder, TweenerHandle},
+    },
+};
+
+use super::{
+    give,
+    judge::{self, Faults},
+    show,
+    station::{ModulatorHandle, Station, Tables},
+    words::Words,
+};
+
+pub(super) fn answer(call: &str, words: Words, station: &mut Station) -> Option<String> {
+    match call {
+        "tweener.add" => add_tweener(words, station),
+        "tweener.set" => set_tweener(words, station),
+        "lfo.add" => add_lfo(words, station),
+        "lfo.freq" => set_lfo(words, station, LfoHandle::set_frequency),
+        "lfo.amp" => set_lfo(words, station, LfoHandle::set_amplitude),
+        "lfo.off" => set_lfo(words, station, LfoHandle::set_offset),
+        "lfo.wave" => set_waveform(words, station),
+        "lfo.phase" => set_phase(words, station),
+        "mod.value" => value(words, station),
+        "mod.drop" => remove(words, station),
+        "mod.gen" => set_generation(words, station),
+        _ => None,
+    }
+}
+
+fn no_room(station: &Station) -> Faults {
+    judge::room(station.tables.modulators.controller().is_full())
+}
+
+fn add(
+    station: &mut Station,
+    build: impl FnOnce(ModulatorId) -> (Box<dyn Modulator>, ModulatorHandle),
+) -> String {
+    let modulators = &mut station.tables.modulators;
+    let key = modulators.controller().try_reserve();
+    let key = key.expect("there is room");
+    let (modulator, handle) = build(ModulatorId(key));
+    let inserted = modulators.insert_with_key(key, modulator);
+    inserted.expect("the key was just reserved");
+    station.modulators.insert(key, handle);
+    format!("id {}", show::id(key))
+}
+
+fn add_tweener(mut words: Words, station: &mut Station) -> Option<String> {
+    let initial_value = words.float()?;
+    words.end()?;
+    let faults = judge::float(initial_value) | no_room(station);
+    give(faults, || {
+        add(station, |id| {
+            let (tweener, handle) = TweenerBuilder { initial_value }.build(id);
+            (tweener, ModulatorHandle::Tweener(handle))
+        })
+    })
+}
+
+fn add_lfo(mut words: Words, station: &mut Station) -> Option<String> {
+    let builder = LfoBuilder {
+        waveform: words.waveform()?,
+        frequency: words.float_value()?,
+        amplitude: words.float_value()?,
+        offset: words.float_value()?,
+        starting_phase: words.float()?,
+    };
+    words.end()?;
+    let faults = judge::waveform(builder.waveform)
+        | judge::float_value(&builder.frequency)
+        | judge::float_value(&builder.amplitude)
+        | judge::float_value(&builder.offset)
+        | judge::float(builder.starting_phase)
+        | no_room(station);
+    give(faults, || {
+        add(station, |id| {
+            let (lfo, handle) = builder.build(id);
+            (lfo, ModulatorHandle::Lfo(Box::new(handle)))
+        })
+    })
+}
+
+type Handles = HashMap<Key, ModulatorHandle>;
+
+fn tweener(handles: &mut Handles, id: ModulatorId) -> Option<&mut TweenerHandle> {
+    match handles.get_mut(&id.0) {
+        Some(ModulatorHandle::Tweener(tweener)) => Some(tweener),
+        _ => None,
+    }
+}
+
+fn lfo(handles: &mut Handles, id: ModulatorId) -> Option<&mut LfoHandle> {
+    match handles.get_mut(&id.0) {
+        Some(ModulatorHandle::Lfo(lfo)) => Some(lfo),
+        _ => None,
+    }
+}
+
+/// Gives a living modulator's handle a command, which acts at once.
+fn command<H>(
+    tables: &mut Tables,
+    (id, handle): (ModulatorId, Option<&mut H>),
+    faults: Faults,
+    write: impl FnOnce(&mut H),
+) -> Option<String> {
+    let faults = judge::living(handle.is_some()) | faults;
+    give(faults, || {
+        write(handle.expect("the id was judged"));
+        let modulator = tables.modulators.get_mut(id.0);
+        modulator
+            .expect("what a handle names lives")
+            .on_start_processing();
+        "ok".to_string()
+    })
+}
+
+fn set_tweener(mut words: Words, station: &mut Station) -> Option<String> {
+    let (id, target, tween) = (words.modulator_id()?, words.float()?, words.tween()?);
+    words.end()?;
+    let named = (id, tweener(&mut station.modulators, id));
+    let faults = judge::float(target) | judge::tween(tween);
+    command(&mut station.tables, named, faults, |tweener| {
+        tweener.set(target, tween);
+    })
+}
+
+fn set_lfo(
+    mut words: Words,
+    station: &mut Station,
+    set: fn(&mut LfoHandle, Value<f64>, Tween),
+) -> Option<String> {
+    let (id, target, tween) = (words.modulator_id()?, words.float_value()?, words.tween()?);
+    words.end()?;
+    let named = (id, lfo(&mut station.modulators, id));
+    let faults = judge::float_value(&target) | judge::tween(tween);
+    command(&mut station.tables, named, faults, |lfo| {
+        set(lfo, target, tween)
+    })
+}
+
+fn set_waveform(mut words: Words, station: &mut Station) -> Option<String> {
+    let (id, waveform) = (words.modulator_id()?, words.waveform()?);
+    words.end()?;
+    let named = (id, lfo(&mut station.modulators, id));
+    let faults = judge::waveform(waveform);
+    command(&mut station.tables, named, faults, |lfo| {
+        lfo.set_waveform(waveform)
+    })
+}
+
+fn set_phase(mut words: Words, station: &mut Station) -> Option<String> {
+    let (id, phase) = (words.modulator_id()?, words.float()?);
+    words.end()?;
+    let named = (id, lfo(&mut station.modulators, id));
+    let faults = judge::float(phase);
+    command(&mut station.tables, named, faults, |lfo| {
+        lfo.set_phase(phase)
+    })
+}
+
+fn value(mut words: Words, station: &Station) -> Option<String> {
+    let id = words.modulator_id()?;
+    words.end()?;
+    match station.tables.info().modulator_value(id) {
+        Some(value) => Some(show::float(value)),
+        None => give(judge::living(false), String::new),
+    }
+}
+
+fn remove(mut words: Words, station: &mut Station) -> Option<String> {
+    let id = words.modulator_id()?;
+    words.end()?;
+    let lives = station.tables.modulators.remove(id.0).is_some();
+    station.modulators.remove(&id.0);
+    give(judge::living(lives), || "ok".to_string())
+}
+
+fn set_generation(mut words: Words, station: &Station) -> Option<String> {
+    let id = words.modulator_id()?;
+    words.end()?;
+    let set = station.tables.modulators.controller().set_generation(id.0);
+    set.then(|| "ok".to_string())
+}

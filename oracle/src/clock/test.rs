@@ -1,0 +1,1 @@
+// The original's tests of this module are not supplied; this file lets its declaration compile.
