@@ -1,6 +1,10 @@
 // One line's answer. Each family of calls answers its own lines and leaves the others.
+use crate::curves;
 use crate::floats;
+use crate::instants;
+use crate::mappings;
 use crate::say;
+use crate::speeds;
 use text::Word;
 
 // The answer to a line that is no call, and whether it was written.
@@ -25,7 +29,19 @@ fn called(line: &[u8], name: Word, out: &mut [u8]) -> usize {
     if 0 < n {
         return n;
     }
-    0
+    let n = curves::call(line, name, out);
+    if 0 < n {
+        return n;
+    }
+    let n = speeds::call(line, name, out);
+    if 0 < n {
+        return n;
+    }
+    let n = instants::call(line, name, out);
+    if 0 < n {
+        return n;
+    }
+    mappings::call(line, name, out)
 }
 
 // Answers a line, and says whether the answer was written; a line that is skipped has none.

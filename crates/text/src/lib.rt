@@ -1,10 +1,10 @@
 // Text as the bench and the recordings have it: words between blanks, and numbers as digits. No
 // function has a `requires`: each takes any bytes and any place.
 ghost use mathlib.Core.Path.{_≡_};
-ghost use Prim.Native.Nat.{_+_};
+ghost use Prim.Native.Nat.{_+_, _<_};
 ghost use lib.ListN.{drop};
 ghost use Rattle.text.specs.Words.{run, blanks, wordAt, partOf};
-ghost use Rattle.text.specs.Numbers.{digitOf, hex16Of};
+ghost use Rattle.text.specs.Numbers.{digitOf, numberFrom, hex16Of, decimalOf};
 
 // A word's bytes are those from `from` up to, not including, `to`. With no word left the two are equal.
 pub struct Word {
@@ -12,8 +12,8 @@ pub struct Word {
     pub to: usize,
 }
 
-// What sixteen hexadecimal digits spell.
-pub enum Hex {
+// What digits spell, if they are digits.
+pub enum Number {
     Is(u64),
     No,
 }
@@ -81,22 +81,49 @@ fn digit(b: u8) -> u64
     16
 }
 
-// The number that sixteen lower-case hexadecimal digits spell.
-pub fn hex16(s: &[u8]) -> Hex
-    ensures { λ r. ⌜ r ≡ hex16Of (now (s .entry)) ⌝ }
+// The number that digits spell, each below the base; none where it would pass 2^64 - 1.
+fn spelled(s: &[u8], base: u64) -> Number
+    requires { ⌜ 0 < base ⌝ }
+    ensures { λ r. ⌜ r ≡ numberFrom base 0 (now (s .entry)) ⌝ }
 {
-    if s.len() != 16 {
-        return Hex::No;
-    }
     let mut v: u64 = 0;
     let mut i: usize = 0;
     while i < s.len() {
         let d = digit(s[i]);
-        if d > 15 {
-            return Hex::No;
+        if d >= base {
+            return Number::No;
         }
-        v = v * 16 + d;
+        if v > (0xffff_ffff_ffff_ffff - d) / base {
+            return Number::No;
+        }
+        v = v * base + d;
         i += 1;
     }
-    Hex::Is(v)
+    Number::Is(v)
+}
+
+// The number that sixteen lower-case hexadecimal digits spell.
+pub fn hex16(s: &[u8]) -> Number
+    ensures { λ r. ⌜ r ≡ hex16Of (now (s .entry)) ⌝ }
+{
+    if s.len() != 16 {
+        return Number::No;
+    }
+    spelled(s, 16)
+}
+
+// The number that decimal digits spell, with no zero in front.
+pub fn decimal(s: &[u8]) -> Number
+    ensures { λ r. ⌜ r ≡ decimalOf (now (s .entry)) ⌝ }
+{
+    if s.len() == 0 {
+        return Number::No;
+    }
+    if s.len() == 1 {
+        return spelled(s, 10);
+    }
+    if s[0] == b'0' {
+        return Number::No;
+    }
+    spelled(s, 10)
 }

@@ -1,8 +1,9 @@
-//! The calls that need no station: easing, interpolation, waves, speeds, times, mappings and values.
+//! The calls that need no station: easing, interpolation, waves, speeds, times, mappings and values, and start
+//! times while no clock lives.
 
 use super::{Family, grammar::Grammar, random::Random};
 
-const FORMS: [&str; 34] = [
+const FORMS: [&str; 37] = [
     "ease EASE FLOAT",
     "lerp FLOAT LOW HIGH",
     "wave WAVE FLOAT",
@@ -37,10 +38,13 @@ const FORMS: [&str; 34] = [
     "val.neg FVAL",
     "dur.secs NS",
     "tween.default",
+    "start.up START DT",
+    "start.up del NS DT",
+    "start.up del 86400000000000 DT",
 ];
 
 /// Document 01's worked rows, and cases where several limits meet.
-const ROWS: [&str; 24] = [
+const ROWS: [&str; 28] = [
     "time.fromf 400c000000000000",
     "time.addf 2 3fe0000000000000 3ffc000000000000",
     "time.subf 5 3fe0000000000000 3ff4000000000000",
@@ -65,6 +69,10 @@ const ROWS: [&str; 24] = [
     "speed.lerp tps 0000000000000000 spt 3ff0000000000000 7ff8000000000000",
     "speed.lerp tps 8000000000000000 spt 3ff0000000000000 3fe0000000000000",
     "map.s 3ff0000000000000 3ff0000000000000 spt 3ff0000000000000 tps 3ff0000000000000 in 0 3ff0000000000000",
+    "start.up del 86400000000000 404e000000000000",
+    "start.up del 86400000000000 404e000000000001",
+    "start.up del 1 3e012e0be826d695",
+    "start.up del 2929688 3f68000000000000",
 ];
 
 pub(super) fn family(powers: u64) -> Family {

@@ -1,0 +1,47 @@
+// The calls speed.*.
+use crate::say;
+use crate::words;
+use crate::words::FloatAt;
+use crate::words::SpeedAt;
+use text::Word;
+use times::clock_speed::ClockSpeed;
+use times::clock_speed::as_seconds_per_tick;
+use times::clock_speed::as_ticks_per_minute;
+use times::clock_speed::as_ticks_per_second;
+use times::clock_speed::lerp_speed;
+
+fn lerp(line: &[u8], at: usize, a: ClockSpeed, out: &mut [u8]) -> usize {
+    let SpeedAt::Is(b, behind) = words::speed(line, at) else {
+        return 0;
+    };
+    let FloatAt::Is(amount, to) = words::float(line, behind) else {
+        return 0;
+    };
+    if !words::ended(line, to) {
+        return 0;
+    }
+    say::speeded(out, lerp_speed(a, b, amount))
+}
+
+// The answer's length, or 0 where the line is no call of this family.
+pub fn call(line: &[u8], name: Word, out: &mut [u8]) -> usize {
+    let SpeedAt::Is(s, to) = words::speed(line, name.to) else {
+        return 0;
+    };
+    if words::is(line, name, b"speed.lerp") {
+        return lerp(line, to, s, out);
+    }
+    if !words::ended(line, to) {
+        return 0;
+    }
+    if words::is(line, name, b"speed.spt") {
+        return say::floated(out, as_seconds_per_tick(s));
+    }
+    if words::is(line, name, b"speed.tps") {
+        return say::floated(out, as_ticks_per_second(s));
+    }
+    if words::is(line, name, b"speed.tpm") {
+        return say::floated(out, as_ticks_per_minute(s));
+    }
+    0
+}

@@ -1,0 +1,125 @@
+-- Document 01, "Worked rows": those marked *, as a single table with a single claim. Each row is computed through the very definitions that the entries' contracts cite. Doubles are written by their bits. Assumes nothing.
+use Prim.Native.Nat.{ℕ}
+use mathlib.Core.Bool.{Bool, true, false}
+use mathlib.Core.List.{List, [], _∷_}
+use lib.Dec.{T, eqb}
+use lib.Ieee.{Float, binary64, ofBits, toBits, add, sub, mul, div, rem, lt, le, eq, toUnsigned}
+use Rattle.times.specs.Answer.{Answer, accepted, refused}
+use Rattle.times.specs.Judge.{firstFault}
+use Rattle.times.specs.Speeds.{asTpsOf, interpolateSpeedOf}
+use Rattle.times.specs.Times.{fromFloatOf, addFloatOf, subFloatOf, laterOf, earlierOf}
+use Rattle.times.specs.declared.time.ClockId.{ClockId}
+use Rattle.times.specs.declared.time.ClockTime.{ClockTime}
+use Rattle.times.specs.declared.clock_speed.ClockSpeed.the-variants.{TicksPerMinute}
+use Rattle.tweens.specs.Easings.{easeOf, applyOf, inOutOf, powerOf}
+use Rattle.tweens.specs.Values.{mapFOf, mapFloatOf, amountOf}
+use Rattle.tweens.specs.Waves.{waveOf, waveValueOf}
+use Rattle.tweens.specs.declared.tween.Easing.the-variants.{Linear, InOutPowi}
+use Rattle.tweens.specs.declared.value.FloatMapping.{FloatMapping}
+use Rattle.tweens.specs.declared.waveform.Waveform.the-variants.{Triangle}
+
+-- what is computed, and what 01 says, as numbers: 0 (OK) and the values, or a refusal's number alone
+pub record Row : Type 0 where
+  pub computed : List ℕ
+  pub expected : List ℕ
+
+same : List ℕ → List ℕ → Bool
+same [] [] = true
+same [] (y ∷ ys) = false
+same (x ∷ xs) [] = false
+same (x ∷ xs) (y ∷ ys) = elim (eqb x y) [ true ↦ same xs ys | false ↦ false ]
+
+pub all : List Row → Bool
+unfolding same
+all [] = true
+all (r ∷ rs) = elim (same (r .computed) (r .expected)) [ true ↦ all rs | false ↦ false ]
+
+-- an answer as numbers
+told : {A : Type 0} → (A → List ℕ) → Answer A → List ℕ
+told f (accepted a) = 0 ∷ f a
+told f (refused n) = n ∷ []
+
+float : ℕ → Float
+unfolding ofBits
+float b = ofBits binary64 b
+
+bits : Float → List ℕ
+unfolding toBits
+bits x = toBits binary64 x ∷ []
+
+-- ticks, and the fraction's bits
+ticks : ClockTime → List ℕ
+unfolding toBits
+ticks t = t .ticks ∷ toBits binary64 (t .fraction) ∷ []
+
+clock : ClockId
+clock = record { slot = 0; generation = 1 }
+
+-- ---- the kinds of rows
+
+reads : ℕ → List ℕ → Row
+unfolding told float ticks clock fromFloatOf
+reads x e = record { computed = told ticks (fromFloatOf clock (float x)); expected = e }
+
+plus : ℕ → ℕ → ℕ → List ℕ → Row
+unfolding told float ticks clock addFloatOf laterOf earlierOf
+plus n f x e = record { computed = told ticks (addFloatOf (record { clock = clock; ticks = n; fraction = float f }) (float x)); expected = e }
+
+minus : ℕ → ℕ → ℕ → List ℕ → Row
+unfolding told float ticks clock subFloatOf laterOf earlierOf
+minus n f x e = record { computed = told ticks (subFloatOf (record { clock = clock; ticks = n; fraction = float f }) (float x)); expected = e }
+
+perMinute : ℕ → List ℕ → Row
+unfolding told float bits
+perMinute x e = record { computed = told bits (asTpsOf (TicksPerMinute (float x))); expected = e }
+
+-- input x of 0..10 to 100..200
+mapped : ℕ → List ℕ → Row
+unfolding told float bits mapFloatOf amountOf applyOf
+mapped x e =
+    record {
+      computed = told bits (mapFOf (record { «in_lo» = float 0; «in_hi» = float 0x4024_0000_0000_0000; «out_lo» = float 0x4059_0000_0000_0000; «out_hi» = float 0x4069_0000_0000_0000; easing = Linear }) (float x));
+      expected = e;
+    }
+
+inOut2 : ℕ → List ℕ → Row
+unfolding told float bits applyOf inOutOf powerOf
+inOut2 x e = record { computed = told bits (easeOf (InOutPowi 2) (float x)); expected = e }
+
+triangle : ℕ → List ℕ → Row
+unfolding told float bits waveValueOf
+triangle x e = record { computed = told bits (waveOf Triangle (float x)); expected = e }
+
+-- ---- the table
+
+pub rows : List Row
+unfolding reads plus minus perMinute mapped inOut2 triangle
+rows =
+    -- "3.5 reads (3, 0.5)"
+    reads 0x400c_0000_0000_0000 (0 ∷ 3 ∷ 0x3fe0_0000_0000_0000 ∷ [])
+    -- "(2, 0.5) + 1.75 = (4, 0.25)"
+    ∷ plus 2 0x3fe0_0000_0000_0000 0x3ffc_0000_0000_0000 (0 ∷ 4 ∷ 0x3fd0_0000_0000_0000 ∷ [])
+    -- "(5, 0.5) − 1.25 = (4, 0.25)"
+    ∷ minus 5 0x3fe0_0000_0000_0000 0x3ff4_0000_0000_0000 (0 ∷ 4 ∷ 0x3fd0_0000_0000_0000 ∷ [])
+    -- "(0, 0.25) − 0.5 = (0, 0.75)"
+    ∷ minus 0 0x3fd0_0000_0000_0000 0x3fe0_0000_0000_0000 (0 ∷ 0 ∷ 0x3fe8_0000_0000_0000 ∷ [])
+    -- "(5, 0.0) − 2^-60 = (4, 0.0)"
+    ∷ minus 5 0 0x3c30_0000_0000_0000 (0 ∷ 4 ∷ 0 ∷ [])
+    -- "120 per minute = 2 per second"
+    ∷ perMinute 0x405e_0000_0000_0000 (0 ∷ 0x4000_0000_0000_0000 ∷ [])
+    -- "input 5 of 0..10 to 100..200 = 150; input 20 = 200"
+    ∷ mapped 0x4014_0000_0000_0000 (0 ∷ 0x4062_c000_0000_0000 ∷ [])
+    ∷ mapped 0x4034_0000_0000_0000 (0 ∷ 0x4069_0000_0000_0000 ∷ [])
+    -- "InOutPowi(2): 0.25 gives 0.125, 0.75 gives 0.875"
+    ∷ inOut2 0x3fd0_0000_0000_0000 (0 ∷ 0x3fc0_0000_0000_0000 ∷ [])
+    ∷ inOut2 0x3fe8_0000_0000_0000 (0 ∷ 0x3fec_0000_0000_0000 ∷ [])
+    -- "Triangle at 0 and 0.25: 0 and 1; at −0.875: 1.5"
+    ∷ triangle 0 (0 ∷ 0 ∷ [])
+    ∷ triangle 0x3fd0_0000_0000_0000 (0 ∷ 0x3ff0_0000_0000_0000 ∷ [])
+    ∷ triangle 0xbfec_0000_0000_0000 (0 ∷ 0x3ff8_0000_0000_0000 ∷ [])
+    ∷ []
+
+-- the single claim
+pub worked : T (all rows)
+unfolding all rows firstFault add sub mul div rem lt le eq toUnsigned
+worked = tt

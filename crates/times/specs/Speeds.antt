@@ -1,0 +1,92 @@
+-- Document 01, "tween/tweenable.rs" and "Speeds". Assumes nothing.
+use mathlib.Core.Bool.{Bool, true, false, not, _&&_, _||_}
+use lib.IntN.{pos, negsuc}
+use lib.Ieee.{Float, fin, binary64, add, sub, mul, div, lt, le, eq}
+use Rattle.doubles.specs.Doubles.{finiteOf, zeroF, oneF}
+use Rattle.times.specs.Answer.{Answer, accepted, refused}
+use Rattle.times.specs.Judge.{bothFaults, floatFaults, judged}
+use Rattle.times.specs.declared.judge.Faults.{Faults}
+use Rattle.times.specs.declared.clock_speed.ClockSpeed.{ClockSpeed}
+use Rattle.times.specs.declared.clock_speed.ClockSpeed.the-variants.{SecondsPerTick, TicksPerSecond, TicksPerMinute}
+use Rattle.times.specs.declared.clock_speed.Speeded.{Speeded}
+use Rattle.times.specs.declared.clock_speed.Speeded.the-variants.{Is, Refused}
+
+-- "a + (b − a)·amount"
+abbrev pub interpolateOf : Float → Float → Float → Float
+interpolateOf a b amount = add binary64 a (mul binary64 (sub binary64 b a) amount)
+
+abbrev pub lerpOf : Float → Float → Float → Answer Float
+lerpOf a b amount = judged (bothFaults (bothFaults (floatFaults a) (floatFaults b)) (floatFaults amount)) (accepted (interpolateOf a b amount))
+
+abbrev pub sixtyF : Float
+sixtyF = fin false 15 (pos 2)
+
+-- "Reading one unit in another is the one operation of clock_speed.rs: 1/x, 60/x, x·60 or x/60."
+abbrev pub sptOf : ClockSpeed → Float
+sptOf (SecondsPerTick x) = x
+sptOf (TicksPerSecond x) = div binary64 oneF x
+sptOf (TicksPerMinute x) = div binary64 sixtyF x
+
+abbrev pub tpsOf : ClockSpeed → Float
+tpsOf (SecondsPerTick x) = div binary64 oneF x
+tpsOf (TicksPerSecond x) = x
+tpsOf (TicksPerMinute x) = div binary64 x sixtyF
+
+abbrev pub tpmOf : ClockSpeed → Float
+tpmOf (SecondsPerTick x) = div binary64 sixtyF x
+tpmOf (TicksPerSecond x) = mul binary64 x sixtyF
+tpmOf (TicksPerMinute x) = x
+
+-- a speed in the unit of another
+abbrev pub readInOf : ClockSpeed → ClockSpeed → Float
+readInOf s (SecondsPerTick y) = sptOf s
+readInOf s (TicksPerSecond y) = tpsOf s
+readInOf s (TicksPerMinute y) = tpmOf s
+
+-- "Interpolating reads the start in the target's unit and answers in it."
+unfoldable pub interpolateSpeedOf : ClockSpeed → ClockSpeed → Float → ClockSpeed
+interpolateSpeedOf a (SecondsPerTick y) t = SecondsPerTick (interpolateOf (sptOf a) y t)
+interpolateSpeedOf a (TicksPerSecond y) t = TicksPerSecond (interpolateOf (tpsOf a) y t)
+interpolateSpeedOf a (TicksPerMinute y) t = TicksPerMinute (interpolateOf (tpmOf a) y t)
+
+-- "in 2^-20..2^20"
+abbrev pub inRange : Float → Bool
+inRange x = le (fin false 1 (negsuc 19)) x && le x (fin false 1 (pos 20))
+
+-- "Seconds per tick lies in 2^-20..2^20; the others are 0 of either sign or in 2^-20..2^20."
+abbrev pub badSpeed : ClockSpeed → Bool
+badSpeed (SecondsPerTick x) = not (inRange x)
+badSpeed (TicksPerSecond x) = not (eq x zeroF || inRange x)
+badSpeed (TicksPerMinute x) = not (eq x zeroF || inRange x)
+
+-- "the present or start speed, read in the target's unit, is not finite or over 2^27"
+abbrev pub badReading : ClockSpeed → ClockSpeed → Bool
+badReading s target = not (finiteOf (readInOf s target)) || lt (fin false 1 (pos 27)) (readInOf s target)
+
+-- a fault under number 3
+abbrev pub faultsOfSpeed : Bool → Faults
+faultsOfSpeed b = record { dt = false; float = false; speed = b; ease = false; map = false; time = false }
+
+abbrev pub speedFaults : ClockSpeed → Faults
+speedFaults s = faultsOfSpeed (badSpeed s)
+
+abbrev pub readFaults : ClockSpeed → ClockSpeed → Faults
+readFaults s target = faultsOfSpeed (badReading s target)
+
+abbrev pub asSptOf : ClockSpeed → Answer Float
+asSptOf s = judged (speedFaults s) (accepted (sptOf s))
+
+abbrev pub asTpsOf : ClockSpeed → Answer Float
+asTpsOf s = judged (speedFaults s) (accepted (tpsOf s))
+
+abbrev pub asTpmOf : ClockSpeed → Answer Float
+asTpmOf s = judged (speedFaults s) (accepted (tpmOf s))
+
+abbrev pub lerpSpeedOf : ClockSpeed → ClockSpeed → Float → Answer ClockSpeed
+lerpSpeedOf a b amount =
+    judged (bothFaults (bothFaults (bothFaults (speedFaults a) (speedFaults b)) (readFaults a b)) (floatFaults amount))
+    (accepted (interpolateSpeedOf a b amount))
+
+abbrev pub toldSpeed : Speeded → Answer ClockSpeed
+toldSpeed (Is s) = accepted s
+toldSpeed (Refused n) = refused n

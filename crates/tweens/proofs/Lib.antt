@@ -1,0 +1,2 @@
+-- A law that the crates above cite: `Outcomes` on the statements themselves.
+pub mod Outcomes

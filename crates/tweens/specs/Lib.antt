@@ -1,0 +1,3 @@
+pub mod Easings
+pub mod Values
+pub mod Waves
