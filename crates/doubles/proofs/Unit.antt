@@ -1,4 +1,4 @@
--- The range 0..1 of doubles: what clamping, products, complements and powers keep in it. -0.0 compares equal to 0.0, so it counts as lying in 0..1.
+-- The range 0..1 of doubles: what clamping, products, complements, powers and halves keep in it. -0.0 compares equal to 0.0, so it counts as lying in 0..1.
 -- Below that the order of all doubles (`le-trans`, `le-of-not-lt`), and bounds on what rounds a fraction (`round-upto`). Assumes nothing.
 use mathlib.Core.Path.{_≡_, refl, sym, ap, _∙_, subst}
 use mathlib.Core.Logic.{_⊎_, inl, inr}
@@ -16,7 +16,7 @@ use lib.Ieee.Order.{drop, kept, transfer, round-mono}
 use lib.Ieee.Scale.{grid, overflow, finite, round-under, round-val}
 use lib.Ieee.Positive.{num, den, den-pos, through}
 use borrow.Author.Tests.{ltb-true, ltb-false, lt-ltb, le-ltb}
-use Rattle.doubles.specs.Doubles.{zeroF, oneF, clampOf}
+use Rattle.doubles.specs.Doubles.{zeroF, oneF, twoF, halfF, clampOf}
 use Rattle.doubles.proofs.Held.{held}
 
 -- ---- numbers
@@ -640,21 +640,6 @@ powers-unit p x a b c h zero = subst InUnit (sym a) (record { least = unfold le 
 powers-unit p x a b c h (suc zero) = subst InUnit (sym b) h
 powers-unit p x a b c h (suc (suc n)) = subst InUnit (sym (c n)) (mul-unit (p (suc n)) x (powers-unit p x a b c h (suc n)) h)
 
-unfoldable pub product : Float → ℕ → Float
-product x zero = oneF
-product x (suc zero) = x
-product x (suc (suc n)) = mul binary64 (product x (suc n)) x
-
-pub product-unit : (x : Float) (n : ℕ) → InUnit x → InUnit (product x n)
-unfolding product
-product-unit x n h = powers-unit (product x) x refl refl (λ k. refl) h n
-
-abbrev pub twoF : Float
-twoF = fin false 1 (pos 1)
-
-abbrev pub halfF : Float
-halfF = fin false 1 (negsuc 0)
-
 -- 2 x, for x in 0..1: in 0..2; below 1 it is in 0..1, and from 1 on 2 - 2 x is
 pub twice-range : (x : Float) → InUnit x → Between zeroF (mul binary64 twoF x) twoF
 twice-range x h = mul-within binary64 twoF x twoF (unfold fits in tt) tt (record { least = unfold le in tt; most = unfold le in tt }) h
@@ -698,16 +683,3 @@ pub high-half : (p : Float) → InUnit p → InUnit (add binary64 (mul binary64 
 high-half p h =
     subst (λ (z : Float). Between zeroF (add binary64 (mul binary64 halfF p) halfF) z) halves
     (add-mono binary64 (mul binary64 halfF p) halfF halfF halfF tt tt (half-range p h) (record { least = unfold le in tt; most = unfold le in tt }))
-
--- easing out, and in then out (easing in is `product-unit`)
-pub eased-out : (x : Float) (n : ℕ) → InUnit x → InUnit (sub binary64 oneF (product (sub binary64 oneF x) n))
-eased-out x n h = complement-unit (product (sub binary64 oneF x) n) (product-unit (sub binary64 oneF x) n (complement-unit x h))
-
-pub eased-in-out : (x : Float) (n : ℕ) → InUnit x → InUnit (cond (lt (mul binary64 twoF x) oneF) (mul binary64 halfF (product (mul binary64 twoF x) n)) (add binary64 (mul binary64 halfF (sub binary64 oneF (product (sub binary64 twoF (mul binary64 twoF x)) n))) halfF))
-eased-in-out x n h = go (lt (mul binary64 twoF x) oneF) (twice-low x h) (twice-high x h)
-  where
-    go : (b : Bool) → (b ≡ true → InUnit (mul binary64 twoF x)) → (b ≡ false → InUnit (sub binary64 twoF (mul binary64 twoF x))) → InUnit (cond b (mul binary64 halfF (product (mul binary64 twoF x) n)) (add binary64 (mul binary64 halfF (sub binary64 oneF (product (sub binary64 twoF (mul binary64 twoF x)) n))) halfF))
-    go true a b = low-half (product (mul binary64 twoF x) n) (product-unit (mul binary64 twoF x) n (a refl))
-    go false a b =
-        let z = sub binary64 twoF (mul binary64 twoF x) in
-        high-half (sub binary64 oneF (product z n)) (complement-unit (product z n) (product-unit z n (b refl)))

@@ -2,7 +2,7 @@
 -- `round binary64 s a c` is the double of the fraction a / c with the sign s. Assumes nothing.
 use Prim.Native.Nat.{ℕ, _+_, _-_, _*_, _/_}
 use mathlib.Core.Bool.{Bool, true, false, cond}
-use lib.IntN.{pos}
+use lib.IntN.{pos, negsuc}
 use lib.Ieee.{Float, nan, inf, fin, binary64, up, down, round, sub, lt}
 
 abbrev pub zeroF : Float
@@ -10,6 +10,12 @@ zeroF = fin false 0 (pos 0)
 
 abbrev pub oneF : Float
 oneF = fin false 1 (pos 0)
+
+abbrev pub twoF : Float
+twoF = fin false 1 (pos 1)
+
+abbrev pub halfF : Float
+halfF = fin false 1 (negsuc 0)
 
 -- "finite": neither a NaN nor an infinity
 abbrev pub finiteOf : Float → Bool

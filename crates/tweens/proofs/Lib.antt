@@ -1,2 +1,3 @@
--- A law that the crates above cite: `Outcomes` on the statements themselves.
+-- Laws that the crates above cite: `Eased` on eased amounts, `Outcomes` on the statements themselves.
+pub mod Eased
 pub mod Outcomes

@@ -4,7 +4,7 @@ use mathlib.Core.Bool.{Bool, true, false, _||_, cond}
 use lib.IntN.{pos, negsuc}
 use lib.Dec.{ltb}
 use lib.Ieee.{Float, fin, binary64, add, sub, mul, div, lt}
-use Rattle.doubles.specs.Doubles.{oneF}
+use Rattle.doubles.specs.Doubles.{oneF, twoF, halfF}
 use Rattle.times.specs.Answer.{Answer, accepted}
 use Rattle.times.specs.Judge.{bothFaults, floatFaults, spanFaults, judged}
 use Rattle.times.specs.Durations.{secondsOf}
@@ -14,12 +14,6 @@ use Rattle.times.specs.declared.start_time.StartTime.the-variants.{Immediate}
 use Rattle.tweens.specs.declared.tween.Easing.{Easing}
 use Rattle.tweens.specs.declared.tween.Easing.the-variants.{Linear, InPowi, OutPowi, InOutPowi}
 use Rattle.tweens.specs.declared.tween.Tween.{Tween}
-
-abbrev pub twoF : Float
-twoF = fin false 1 (pos 1)
-
-abbrev pub halfF : Float
-halfF = fin false 1 (negsuc 0)
 
 -- "InPowi(n): x multiplied by itself, n factors, left to right"; no factor gives 1
 unfoldable pub powerOf : Float → ℕ → Float
@@ -38,7 +32,7 @@ inOutAt y n =
     (add binary64 (mul binary64 halfF (sub binary64 oneF (powerOf (sub binary64 twoF y) n))) halfF)
 
 unfoldable pub inOutOf : Float → ℕ → Float
-inOutOf x n = inOutAt (mul binary64 x twoF) n
+inOutOf x n = inOutAt (mul binary64 twoF x) n
 
 unfoldable pub applyOf : Easing → Float → Float
 applyOf Linear x = x

@@ -2,11 +2,10 @@
 use mathlib.Core.Bool.{true, false, cond}
 use lib.IntN.{pos, negsuc}
 use lib.Ieee.{Float, fin, binary64, add, sub, mul, lt}
-use Rattle.doubles.specs.Doubles.{oneF, fractOf, absOf}
+use Rattle.doubles.specs.Doubles.{oneF, twoF, halfF, fractOf, absOf}
 use Rattle.times.specs.Answer.{Answer, accepted}
 use Rattle.times.specs.Judge.{noFaults, bothFaults, floatFaults, judged}
 use Rattle.times.specs.declared.judge.Faults.{Faults}
-use Rattle.tweens.specs.Easings.{twoF, halfF}
 use Rattle.tweens.specs.declared.waveform.Waveform.{Waveform}
 use Rattle.tweens.specs.declared.waveform.Waveform.the-variants.{Triangle, Saw, Pulse}
 

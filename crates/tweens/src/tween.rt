@@ -46,7 +46,7 @@ pub fn power(x: f64, n: u32) -> f64
 fn in_out(x: f64, n: u32) -> f64
     ensures { λ r. ⌜ r ≡ inOutOf x n ⌝ }
 {
-    let y = x * 2.0;
+    let y = 2.0 * x;
     if y < 1.0 {
         return 0.5 * power(y, n);
     }

@@ -7,6 +7,8 @@ mod floats;
 mod grammar;
 mod leaves;
 mod limits;
+mod nanos;
+mod powers;
 mod random;
 mod station;
 mod times;
@@ -20,7 +22,7 @@ use std::{
 use random::Random;
 
 const USAGE: &str = "usage: generate FAMILY SEED COUNT [--powers MOST]
-FAMILY is floats, times or station. Powers that are accepted go to MOST, 1 to 16, or to 16.";
+FAMILY is floats, times, nanos, powers or station. Powers that are accepted go to MOST, 1 to 16, or to 16.";
 
 /// One in this many lines is damaged, about 3 in 100.
 const DAMAGED: u64 = 33;
@@ -63,6 +65,8 @@ fn read_arguments(words: &[String]) -> Option<(Family, u64, u64)> {
     let family = match family.as_str() {
         "floats" => floats::family(),
         "times" => times::family(powers),
+        "nanos" => nanos::family(),
+        "powers" => powers::family(),
         "station" => station::family(powers),
         _ => return None,
     };
