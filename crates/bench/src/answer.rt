@@ -3,13 +3,20 @@ use crate::curves;
 use crate::floats;
 use crate::instants;
 use crate::mappings;
-use crate::say;
 use crate::speeds;
 use text::Word;
 
 // The answer to a line that is no call, and whether it was written.
 pub fn error() -> bool {
     io::write_all(1, b"error\n")
+}
+
+// Writes the first bytes of a buffer, and says whether that was done.
+fn written(out: &[u8], n: usize) -> bool {
+    if out.len() < n {
+        return false;
+    }
+    io::write_all(1, &out[0..n])
 }
 
 // Whether a line is skipped: it has no word, or its first byte is a `#`.
@@ -55,5 +62,5 @@ pub fn line(line: &[u8]) -> bool {
     if n == 0 {
         return error();
     }
-    say::written(&out, n)
+    written(&out, n)
 }

@@ -1,7 +1,5 @@
 // The calls f.*: a double in, a double out.
-use crate::say;
-use crate::words;
-use crate::words::FloatAt;
+use grammar::FloatAt;
 use text::Word;
 
 enum Value {
@@ -11,19 +9,19 @@ enum Value {
 
 // What the function of a name makes of x.
 fn applied(line: &[u8], name: Word, x: f64) -> Value {
-    if words::is(line, name, b"f.trunc") {
+    if grammar::is(line, name, b"f.trunc") {
         return Value::Is(doubles::whole(x));
     }
-    if words::is(line, name, b"f.fract") {
+    if grammar::is(line, name, b"f.fract") {
         return Value::Is(doubles::fract(x));
     }
-    if words::is(line, name, b"f.ceil") {
+    if grammar::is(line, name, b"f.ceil") {
         return Value::Is(doubles::ceil(x));
     }
-    if words::is(line, name, b"f.abs") {
+    if grammar::is(line, name, b"f.abs") {
         return Value::Is(doubles::abs(x));
     }
-    if words::is(line, name, b"f.clamp") {
+    if grammar::is(line, name, b"f.clamp") {
         return Value::Is(doubles::clamp01(x));
     }
     Value::No
@@ -31,15 +29,15 @@ fn applied(line: &[u8], name: Word, x: f64) -> Value {
 
 // The answer's length, or 0 where the line is no call of this family.
 pub fn call(line: &[u8], name: Word, out: &mut [u8]) -> usize {
-    let FloatAt::Is(x, to) = words::float(line, name.to) else {
+    let FloatAt::Is(x, to) = grammar::float(line, name.to) else {
         return 0;
     };
-    if !words::ended(line, to) {
+    if !grammar::ended(line, to) {
         return 0;
     }
     let Value::Is(y) = applied(line, name, x) else {
         return 0;
     };
-    let at = say::float(out, 0, y);
-    say::end(out, at)
+    let at = answers::float(out, 0, y);
+    answers::end(out, at)
 }

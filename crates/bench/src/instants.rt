@@ -1,10 +1,8 @@
 // The calls time.* and start.up.
-use crate::say;
-use crate::words;
-use crate::words::FloatAt;
-use crate::words::NumberAt;
-use crate::words::StartAt;
-use crate::words::TimeAt;
+use grammar::FloatAt;
+use grammar::NumberAt;
+use grammar::StartAt;
+use grammar::TimeAt;
 use text::Word;
 use times::start_time::StartUp;
 use times::start_time::When;
@@ -33,40 +31,40 @@ fn no_clock() -> ClockId {
 fn timed(out: &mut [u8], r: Timed) -> usize {
     match r {
         Timed::At(t) => {
-            let at = say::time(out, 0, t);
-            say::end(out, at)
+            let at = answers::time(out, 0, t);
+            answers::end(out, at)
         }
-        Timed::Refused(n) => say::refused(out, n),
+        Timed::Refused(n) => answers::refused(out, n),
     }
 }
 
 fn compared(out: &mut [u8], r: Compared) -> usize {
     match r {
         Compared::Is(o) => match o {
-            Order::Less => say::put(out, 0, b"lt\n"),
-            Order::Equal => say::put(out, 0, b"eq\n"),
-            Order::Greater => say::put(out, 0, b"gt\n"),
-            Order::Unordered => say::put(out, 0, b"none\n"),
+            Order::Less => answers::put(out, 0, b"lt\n"),
+            Order::Equal => answers::put(out, 0, b"eq\n"),
+            Order::Greater => answers::put(out, 0, b"gt\n"),
+            Order::Unordered => answers::put(out, 0, b"none\n"),
         },
-        Compared::Refused(n) => say::refused(out, n),
+        Compared::Refused(n) => answers::refused(out, n),
     }
 }
 
 fn from_u64(line: &[u8], at: usize, out: &mut [u8]) -> usize {
-    let NumberAt::Is(ticks, to) = words::number(line, at) else {
+    let NumberAt::Is(ticks, to) = grammar::number(line, at) else {
         return 0;
     };
-    if !words::ended(line, to) {
+    if !grammar::ended(line, to) {
         return 0;
     }
     timed(out, Timed::At(from_ticks_u64(no_clock(), ticks)))
 }
 
 fn from_f64(line: &[u8], at: usize, out: &mut [u8]) -> usize {
-    let FloatAt::Is(x, to) = words::float(line, at) else {
+    let FloatAt::Is(x, to) = grammar::float(line, at) else {
         return 0;
     };
-    if !words::ended(line, to) {
+    if !grammar::ended(line, to) {
         return 0;
     }
     timed(out, from_ticks_f64(no_clock(), x))
@@ -74,13 +72,13 @@ fn from_f64(line: &[u8], at: usize, out: &mut [u8]) -> usize {
 
 // A time and a double: with `back` subtracted, else added.
 fn shift_f64(line: &[u8], at: usize, back: bool, out: &mut [u8]) -> usize {
-    let TimeAt::Is(t, behind) = words::time(line, at, no_clock()) else {
+    let TimeAt::Is(t, behind) = grammar::time(line, at, no_clock()) else {
         return 0;
     };
-    let FloatAt::Is(x, to) = words::float(line, behind) else {
+    let FloatAt::Is(x, to) = grammar::float(line, behind) else {
         return 0;
     };
-    if !words::ended(line, to) {
+    if !grammar::ended(line, to) {
         return 0;
     }
     if back {
@@ -91,13 +89,13 @@ fn shift_f64(line: &[u8], at: usize, back: bool, out: &mut [u8]) -> usize {
 
 // A time and whole ticks: with `back` subtracted, else added.
 fn shift_u64(line: &[u8], at: usize, back: bool, out: &mut [u8]) -> usize {
-    let TimeAt::Is(t, behind) = words::time(line, at, no_clock()) else {
+    let TimeAt::Is(t, behind) = grammar::time(line, at, no_clock()) else {
         return 0;
     };
-    let NumberAt::Is(n, to) = words::number(line, behind) else {
+    let NumberAt::Is(n, to) = grammar::number(line, behind) else {
         return 0;
     };
-    if !words::ended(line, to) {
+    if !grammar::ended(line, to) {
         return 0;
     }
     if back {
@@ -107,13 +105,13 @@ fn shift_u64(line: &[u8], at: usize, back: bool, out: &mut [u8]) -> usize {
 }
 
 fn cmp(line: &[u8], at: usize, out: &mut [u8]) -> usize {
-    let TimeAt::Is(a, behind) = words::clock_time(line, at) else {
+    let TimeAt::Is(a, behind) = grammar::clock_time(line, at) else {
         return 0;
     };
-    let TimeAt::Is(b, to) = words::clock_time(line, behind) else {
+    let TimeAt::Is(b, to) = grammar::clock_time(line, behind) else {
         return 0;
     };
-    if !words::ended(line, to) {
+    if !grammar::ended(line, to) {
         return 0;
     }
     compared(out, compare(a, b))
@@ -121,52 +119,52 @@ fn cmp(line: &[u8], at: usize, out: &mut [u8]) -> usize {
 
 // No clock lives yet, so a clock time never comes.
 fn start(line: &[u8], at: usize, out: &mut [u8]) -> usize {
-    let StartAt::Is(s, behind) = words::start(line, at) else {
+    let StartAt::Is(s, behind) = grammar::start(line, at) else {
         return 0;
     };
-    let FloatAt::Is(dt, to) = words::float(line, behind) else {
+    let FloatAt::Is(dt, to) = grammar::float(line, behind) else {
         return 0;
     };
-    if !words::ended(line, to) {
+    if !grammar::ended(line, to) {
         return 0;
     }
     match start_up(s, dt, When::Never) {
         StartUp::Is(w) => {
             let after = w.start;
-            let a = say::flag(out, 0, w.never);
-            let b = say::put(out, a, b" ");
-            let c = say::start(out, b, after);
-            say::end(out, c)
+            let a = answers::flag(out, 0, w.never);
+            let b = answers::put(out, a, b" ");
+            let c = answers::start(out, b, after);
+            answers::end(out, c)
         }
-        StartUp::Refused(n) => say::refused(out, n),
+        StartUp::Refused(n) => answers::refused(out, n),
     }
 }
 
 // The answer's length, or 0 where the line is no call of this family.
 pub fn call(line: &[u8], name: Word, out: &mut [u8]) -> usize {
     let at = name.to;
-    if words::is(line, name, b"time.fromu") {
+    if grammar::is(line, name, b"time.fromu") {
         return from_u64(line, at, out);
     }
-    if words::is(line, name, b"time.fromf") {
+    if grammar::is(line, name, b"time.fromf") {
         return from_f64(line, at, out);
     }
-    if words::is(line, name, b"time.addf") {
+    if grammar::is(line, name, b"time.addf") {
         return shift_f64(line, at, false, out);
     }
-    if words::is(line, name, b"time.subf") {
+    if grammar::is(line, name, b"time.subf") {
         return shift_f64(line, at, true, out);
     }
-    if words::is(line, name, b"time.addu") {
+    if grammar::is(line, name, b"time.addu") {
         return shift_u64(line, at, false, out);
     }
-    if words::is(line, name, b"time.subu") {
+    if grammar::is(line, name, b"time.subu") {
         return shift_u64(line, at, true, out);
     }
-    if words::is(line, name, b"time.cmp") {
+    if grammar::is(line, name, b"time.cmp") {
         return cmp(line, at, out);
     }
-    if words::is(line, name, b"start.up") {
+    if grammar::is(line, name, b"start.up") {
         return start(line, at, out);
     }
     0

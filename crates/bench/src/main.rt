@@ -6,9 +6,7 @@ mod curves;
 mod floats;
 mod instants;
 mod mappings;
-mod say;
 mod speeds;
-mod words;
 
 // The longest line, its LF not counted, and a count that stands for a longer one.
 const LONGEST: usize = 1024;

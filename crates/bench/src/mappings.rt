@@ -1,10 +1,8 @@
 // The calls map.* and val.* but for val.raw, which needs modulators.
-use crate::say;
-use crate::words;
-use crate::words::FloatAt;
-use crate::words::FloatMapAt;
-use crate::words::FloatValueAt;
-use crate::words::SpeedMapAt;
+use grammar::FloatAt;
+use grammar::FloatMapAt;
+use grammar::FloatValueAt;
+use grammar::SpeedMapAt;
 use text::Word;
 use tweens::value::Mapped;
 use tweens::value::Op;
@@ -20,102 +18,102 @@ enum OpAt {
 }
 
 fn float_map(line: &[u8], at: usize, out: &mut [u8]) -> usize {
-    let FloatMapAt::Is(m, behind) = words::float_map(line, at) else {
+    let FloatMapAt::Is(m, behind) = grammar::float_map(line, at) else {
         return 0;
     };
-    let FloatAt::Is(x, to) = words::float(line, behind) else {
+    let FloatAt::Is(x, to) = grammar::float(line, behind) else {
         return 0;
     };
-    if !words::ended(line, to) {
+    if !grammar::ended(line, to) {
         return 0;
     }
-    say::floated(out, map_f(m, x))
+    answers::floated(out, map_f(m, x))
 }
 
 fn speed_map(line: &[u8], at: usize, out: &mut [u8]) -> usize {
-    let SpeedMapAt::Is(m, behind) = words::speed_map(line, at) else {
+    let SpeedMapAt::Is(m, behind) = grammar::speed_map(line, at) else {
         return 0;
     };
-    let FloatAt::Is(x, to) = words::float(line, behind) else {
+    let FloatAt::Is(x, to) = grammar::float(line, behind) else {
         return 0;
     };
-    if !words::ended(line, to) {
+    if !grammar::ended(line, to) {
         return 0;
     }
-    say::speeded(out, map_s(m, x))
+    answers::speeded(out, map_s(m, x))
 }
 
 // The operation that a call's last letters name, its operand read at a place; a negation has none.
 fn operation(line: &[u8], op: Word, at: usize) -> OpAt {
-    if words::is(line, op, b"neg") {
+    if grammar::is(line, op, b"neg") {
         return OpAt::Is(Op::Neg, at);
     }
-    let FloatAt::Is(y, to) = words::float(line, at) else {
+    let FloatAt::Is(y, to) = grammar::float(line, at) else {
         return OpAt::No;
     };
-    if words::is(line, op, b"add") {
+    if grammar::is(line, op, b"add") {
         return OpAt::Is(Op::Add(y), to);
     }
-    if words::is(line, op, b"sub") {
+    if grammar::is(line, op, b"sub") {
         return OpAt::Is(Op::Sub(y), to);
     }
-    if words::is(line, op, b"mul") {
+    if grammar::is(line, op, b"mul") {
         return OpAt::Is(Op::Mul(y), to);
     }
-    if words::is(line, op, b"div") {
+    if grammar::is(line, op, b"div") {
         return OpAt::Is(Op::Div(y), to);
     }
-    if words::is(line, op, b"rem") {
+    if grammar::is(line, op, b"rem") {
         return OpAt::Is(Op::Rem(y), to);
     }
     OpAt::No
 }
 
 fn map_op(line: &[u8], at: usize, op: Word, out: &mut [u8]) -> usize {
-    let FloatMapAt::Is(m, behind) = words::float_map(line, at) else {
+    let FloatMapAt::Is(m, behind) = grammar::float_map(line, at) else {
         return 0;
     };
     let OpAt::Is(o, to) = operation(line, op, behind) else {
         return 0;
     };
-    if !words::ended(line, to) {
+    if !grammar::ended(line, to) {
         return 0;
     }
     match map_output(m, o) {
         Mapped::Is(r) => {
-            let end = say::float_map(out, 0, r);
-            say::end(out, end)
+            let end = answers::float_map(out, 0, r);
+            answers::end(out, end)
         }
-        Mapped::Refused(n) => say::refused(out, n),
+        Mapped::Refused(n) => answers::refused(out, n),
     }
 }
 
 fn value_op(line: &[u8], at: usize, op: Word, out: &mut [u8]) -> usize {
-    let FloatValueAt::Is(v, behind) = words::float_value(line, at) else {
+    let FloatValueAt::Is(v, behind) = grammar::float_value(line, at) else {
         return 0;
     };
     let OpAt::Is(o, to) = operation(line, op, behind) else {
         return 0;
     };
-    if !words::ended(line, to) {
+    if !grammar::ended(line, to) {
         return 0;
     }
     match value_output(v, o) {
         Valued::Is(r) => {
-            let end = say::float_value(out, 0, r);
-            say::end(out, end)
+            let end = answers::float_value(out, 0, r);
+            answers::end(out, end)
         }
-        Valued::Refused(n) => say::refused(out, n),
+        Valued::Refused(n) => answers::refused(out, n),
     }
 }
 
 // The answer's length, or 0 where the line is no call of this family.
 pub fn call(line: &[u8], name: Word, out: &mut [u8]) -> usize {
     let at = name.to;
-    if words::is(line, name, b"map.f") {
+    if grammar::is(line, name, b"map.f") {
         return float_map(line, at, out);
     }
-    if words::is(line, name, b"map.s") {
+    if grammar::is(line, name, b"map.s") {
         return speed_map(line, at, out);
     }
     if name.from > 1023 {
@@ -130,10 +128,10 @@ pub fn call(line: &[u8], name: Word, out: &mut [u8]) -> usize {
         from: name.from,
         to: dot,
     };
-    if words::is(line, family, b"map.") {
+    if grammar::is(line, family, b"map.") {
         return map_op(line, at, op, out);
     }
-    if words::is(line, family, b"val.") {
+    if grammar::is(line, family, b"val.") {
         return value_op(line, at, op, out);
     }
     0

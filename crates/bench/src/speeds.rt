@@ -1,8 +1,6 @@
 // The calls speed.*.
-use crate::say;
-use crate::words;
-use crate::words::FloatAt;
-use crate::words::SpeedAt;
+use grammar::FloatAt;
+use grammar::SpeedAt;
 use text::Word;
 use times::clock_speed::ClockSpeed;
 use times::clock_speed::as_seconds_per_tick;
@@ -11,37 +9,37 @@ use times::clock_speed::as_ticks_per_second;
 use times::clock_speed::lerp_speed;
 
 fn lerp(line: &[u8], at: usize, a: ClockSpeed, out: &mut [u8]) -> usize {
-    let SpeedAt::Is(b, behind) = words::speed(line, at) else {
+    let SpeedAt::Is(b, behind) = grammar::speed(line, at) else {
         return 0;
     };
-    let FloatAt::Is(amount, to) = words::float(line, behind) else {
+    let FloatAt::Is(amount, to) = grammar::float(line, behind) else {
         return 0;
     };
-    if !words::ended(line, to) {
+    if !grammar::ended(line, to) {
         return 0;
     }
-    say::speeded(out, lerp_speed(a, b, amount))
+    answers::speeded(out, lerp_speed(a, b, amount))
 }
 
 // The answer's length, or 0 where the line is no call of this family.
 pub fn call(line: &[u8], name: Word, out: &mut [u8]) -> usize {
-    let SpeedAt::Is(s, to) = words::speed(line, name.to) else {
+    let SpeedAt::Is(s, to) = grammar::speed(line, name.to) else {
         return 0;
     };
-    if words::is(line, name, b"speed.lerp") {
+    if grammar::is(line, name, b"speed.lerp") {
         return lerp(line, to, s, out);
     }
-    if !words::ended(line, to) {
+    if !grammar::ended(line, to) {
         return 0;
     }
-    if words::is(line, name, b"speed.spt") {
-        return say::floated(out, as_seconds_per_tick(s));
+    if grammar::is(line, name, b"speed.spt") {
+        return answers::floated(out, as_seconds_per_tick(s));
     }
-    if words::is(line, name, b"speed.tps") {
-        return say::floated(out, as_ticks_per_second(s));
+    if grammar::is(line, name, b"speed.tps") {
+        return answers::floated(out, as_ticks_per_second(s));
     }
-    if words::is(line, name, b"speed.tpm") {
-        return say::floated(out, as_ticks_per_minute(s));
+    if grammar::is(line, name, b"speed.tpm") {
+        return answers::floated(out, as_ticks_per_minute(s));
     }
     0
 }

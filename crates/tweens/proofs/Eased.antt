@@ -1,12 +1,25 @@
--- An eased amount of 0..1 stays in 0..1, whatever the easing and the power: rounding is monotone, and 0 and 1 are doubles. Assumes nothing.
+-- An eased amount of 0..1 stays in 0..1, whatever the easing and the power: rounding is monotone, and 0 and 1 are doubles.
+-- So the amount of a mapping that is not refused lies in 0..1, and the speed that it gives is one of a running clock (`mapped-running`). Assumes nothing.
 use Prim.Native.Nat.{ℕ}
-use mathlib.Core.Path.{_≡_, refl}
-use mathlib.Core.Bool.{Bool, true, false}
-use lib.Ieee.{Float, binary64, isNan, sub, mul, div, lt}
-use Rattle.doubles.specs.Doubles.{oneF, twoF, clampOf}
-use Rattle.doubles.proofs.Unit.{InUnit, clamp-unit, complement-unit, powers-unit, twice-low, twice-high, low-half, high-half}
+use mathlib.Core.Path.{_≡_, refl, ap}
+use mathlib.Core.Bool.{Bool, true, false, not, _||_, true≢false, false≢true}
+use lib.IntN.{pos}
+use lib.Dec.{T, eqb}
+use lib.Ieee.{Float, nan, inf, fin, binary64, isNan, sub, mul, div, lt, le, eq, fits}
+use lib.Ieee.Scale.{finite}
+use borrow.Author.Tests.{not-false}
+use Rattle.doubles.specs.Doubles.{oneF, twoF, absOf}
+use Rattle.doubles.proofs.Unit.{InUnit, le-of-not-lt, clamp-unit, complement-unit, powers-unit, twice-low, twice-high, low-half, high-half}
+use Rattle.doubles.proofs.Quotients.{quotient-is}
+use Rattle.times.specs.Judge.{noFaults, badFloat}
+use Rattle.times.specs.Speeds.{readInOf, badSpeed}
+use Rattle.times.specs.declared.judge.Faults.{Faults}
+use Rattle.times.specs.declared.clock_speed.ClockSpeed.{ClockSpeed}
+use Rattle.times.specs.declared.clock_speed.ClockSpeed.the-variants.{SecondsPerTick, TicksPerSecond, TicksPerMinute}
+use Rattle.times.proofs.Rates.{Running, numberOf, neither, accepted-running, interpolated-running, own-reading}
 use Rattle.tweens.specs.Easings.{powerOf, inOutAt, inOutOf, applyOf}
-use Rattle.tweens.specs.Values.{amountOf}
+use Rattle.tweens.specs.Values.{amountOf, mapSpeedOf, unitOf, speedMapFaults}
+use Rattle.tweens.specs.declared.value.SpeedMapping.{SpeedMapping}
 use Rattle.tweens.specs.declared.tween.Easing.{Easing}
 use Rattle.tweens.specs.declared.tween.Easing.the-variants.{Linear, InPowi, OutPowi, InOutPowi}
 
@@ -35,3 +48,46 @@ eased-unit (InOutPowi n) x h = in-out-unit x n h
 pub amount-unit : (lo hi : Float) (e : Easing) (x : Float) → isNan (div binary64 (sub binary64 x lo) (sub binary64 hi lo)) ≡ false → InUnit (amountOf lo hi e x)
 unfolding amountOf
 amount-unit lo hi e x h = eased-unit e _ (clamp-unit _ h)
+
+-- ---- what is not refused
+
+-- a number that is not refused is finite, and 2 ^ 40 at most in size
+good : (x : Float) → badFloat x ≡ false → T (finite x) × T (le (absOf x) (fin false 1 (pos 40)))
+good nan h = absurd (true≢false h)
+good (inf s) h = absurd (true≢false h)
+good (fin s m e) h = (tt, le-of-not-lt (fin false 1 (pos 40)) (fin false m e) (unfold isNan in refl) (unfold isNan in refl) h)
+
+-- a mapping's amount lies in 0..1 where the ends of its input range are not refused
+pub accepted-amount-unit : (lo hi : Float) (e : Easing) (x : Float) → T (fits binary64 lo) → T (fits binary64 hi) → T (finite x) → badFloat lo ≡ false → badFloat hi ≡ false → eq lo hi ≡ false → InUnit (amountOf lo hi e x)
+accepted-amount-unit lo hi e x F G X l h d =
+    let L = good lo l in
+    let H = good hi h in
+    amount-unit lo hi e x (quotient-is x lo hi F G X (L .0) (H .0) (L .1) (H .1) d)
+
+-- ---- speeds
+
+same-unit : (a b : ClockSpeed) → eqb (unitOf a) (unitOf b) ≡ true → readInOf a b ≡ numberOf a
+same-unit (SecondsPerTick x) (SecondsPerTick y) e = refl
+same-unit (SecondsPerTick x) (TicksPerSecond y) e = absurd (false≢true e)
+same-unit (SecondsPerTick x) (TicksPerMinute y) e = absurd (false≢true e)
+same-unit (TicksPerSecond x) (SecondsPerTick y) e = absurd (false≢true e)
+same-unit (TicksPerSecond x) (TicksPerSecond y) e = refl
+same-unit (TicksPerSecond x) (TicksPerMinute y) e = absurd (false≢true e)
+same-unit (TicksPerMinute x) (SecondsPerTick y) e = absurd (false≢true e)
+same-unit (TicksPerMinute x) (TicksPerSecond y) e = absurd (false≢true e)
+same-unit (TicksPerMinute x) (TicksPerMinute y) e = refl
+
+-- a mapping to speeds that is not refused gives a speed of a running clock
+pub mapped-running : (m : SpeedMapping) (x : Float) → T (fits binary64 (m .«in_lo»)) → T (fits binary64 (m .«in_hi»)) → T (fits binary64 (numberOf (m .«out_lo»))) → T (fits binary64 (numberOf (m .«out_hi»))) → T (finite x) → speedMapFaults m ≡ noFaults → Running (mapSpeedOf m x)
+unfolding mapSpeedOf
+mapped-running m x F G P Q X e =
+    let lo = m .«in_lo» in
+    let hi = m .«in_hi» in
+    let a = m .«out_lo» in
+    let b = m .«out_hi» in
+    let f = neither (badFloat lo) (badFloat hi) (neither (badFloat lo || badFloat hi) false (ap (λ (r : Faults). r .float) e) .0) in
+    let d : eq lo hi ≡ false = neither (eq lo hi) false (neither (eq lo hi || false) false (neither (eq lo hi || false || false) false (ap (λ (r : Faults). r .map) e) .0) .0) .0 in
+    let s = neither (badSpeed a || badSpeed b) (not (eqb (unitOf a) (unitOf b))) (ap (λ (r : Faults). r .speed) e) in
+    let o = neither (badSpeed a) (badSpeed b) (s .0) in
+    let r = accepted-running a P (o .0) in
+    interpolated-running a b (amountOf lo hi (m .easing) x) r Q (o .1) (own-reading a b r (same-unit a b (not-false (eqb (unitOf a) (unitOf b)) (s .1)))) (accepted-amount-unit lo hi (m .easing) x F G X (f .0) (f .1) d)

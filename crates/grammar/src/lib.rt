@@ -1,5 +1,8 @@
 // The grammar of docs/BENCH.md: each function reads one thing at a place of a line, and answers it with
-// the place behind it.
+// the place behind it. No function has a `requires`: each takes any bytes and any place.
+ghost use mathlib.Core.Path.{_≡_};
+ghost use Rattle.text.specs.Words.{run};
+ghost use Rattle.grammar.specs.Grammar.{named, endedAt, floatAt, numberAt, decimal32Of, powerAt, noColon, idIn, idAt, speedAt, easeAt, timeAt, clockTimeAt, delayAt, startAt, floatMapAt, speedMapAt, floatValueAt, waveAt};
 use text::Number;
 use text::Word;
 use times::clock_speed::ClockSpeed;
@@ -23,7 +26,13 @@ pub enum NumberAt {
     No,
 }
 
-pub enum SmallAt {
+// A number of up to 32 bits.
+enum Number32 {
+    Is(u32),
+    No,
+}
+
+enum PowerAt {
     Is(u32, usize),
     No,
 }
@@ -75,17 +84,24 @@ pub enum WaveAt {
 }
 
 // Whether nothing but blanks is left.
-pub fn ended(line: &[u8], at: usize) -> bool {
+pub fn ended(line: &[u8], at: usize) -> bool
+    ensures { λ r. ⌜ r ≡ endedAt (now (line .entry)) at ⌝ }
+{
     let w = text::next_word(line, at);
     w.from == w.to
 }
 
 // Whether a word is the one named.
-pub fn is(line: &[u8], w: Word, name: &[u8]) -> bool {
+pub fn is(line: &[u8], w: Word, name: &[u8]) -> bool
+    ensures { λ r. ⌜ r ≡ named (now (line .entry)) w (now (name .entry)) ⌝ }
+{
     check::same(text::part(line, w), name)
 }
 
-pub fn float(line: &[u8], at: usize) -> FloatAt {
+// A double, by its bits: F.
+pub fn float(line: &[u8], at: usize) -> FloatAt
+    ensures { λ r. ⌜ r ≡ floatAt (now (line .entry)) at ⌝ }
+{
     let w = text::next_word(line, at);
     let Number::Is(bits) = text::hex16(text::part(line, w)) else {
         return FloatAt::No;
@@ -93,72 +109,85 @@ pub fn float(line: &[u8], at: usize) -> FloatAt {
     FloatAt::Is(doubles::of_bits(bits), w.to)
 }
 
-fn number_of(line: &[u8], w: Word) -> NumberAt {
+// A number, or a time in nanoseconds: N, NS.
+pub fn number(line: &[u8], at: usize) -> NumberAt
+    ensures { λ r. ⌜ r ≡ numberAt (now (line .entry)) at ⌝ }
+{
+    let w = text::next_word(line, at);
     let Number::Is(n) = text::decimal(text::part(line, w)) else {
         return NumberAt::No;
     };
     NumberAt::Is(n, w.to)
 }
 
-pub fn number(line: &[u8], at: usize) -> NumberAt {
-    number_of(line, text::next_word(line, at))
-}
-
-// A number of up to 32 bits.
-fn small_of(line: &[u8], w: Word) -> SmallAt {
-    let NumberAt::Is(n, to) = number_of(line, w) else {
-        return SmallAt::No;
+// The number of up to 32 bits that decimal digits spell.
+fn decimal32(s: &[u8]) -> Number32
+    ensures { λ r. ⌜ r ≡ decimal32Of (now (s .entry)) ⌝ }
+{
+    let Number::Is(n) = text::decimal(s) else {
+        return Number32::No;
     };
     if n > 4294967295 {
-        return SmallAt::No;
+        return Number32::No;
     }
-    SmallAt::Is(n as u32, to)
+    Number32::Is(n as u32)
 }
 
-fn small(line: &[u8], at: usize) -> SmallAt {
-    small_of(line, text::next_word(line, at))
+// The power of an easing: N of up to 32 bits.
+fn power(line: &[u8], at: usize) -> PowerAt
+    ensures { λ r. ⌜ r ≡ powerAt (now (line .entry)) at ⌝ }
+{
+    let w = text::next_word(line, at);
+    let Number32::Is(n) = decimal32(text::part(line, w)) else {
+        return PowerAt::No;
+    };
+    PowerAt::Is(n, w.to)
 }
 
-// The place of the first colon from a place on, or the line's length.
-fn colon(line: &[u8], at: usize) -> usize {
-    let mut i = at;
-    while i < line.len() {
-        if line[i] == b':' {
+// The place of the first colon; the length where there is none.
+fn colon(s: &[u8]) -> usize
+    ensures { λ r. ⌜ r ≡ run noColon (now (s .entry)) ⌝ }
+{
+    let mut i: usize = 0;
+    while i < s.len() {
+        if s[i] == b':' {
             return i;
         }
         i += 1;
     }
-    line.len()
+    i
 }
 
-pub fn id(line: &[u8], at: usize) -> IdAt {
-    let w = text::next_word(line, at);
-    let middle = colon(line, w.from);
-    if w.to <= middle {
+// The two numbers that a word has before and behind its first colon.
+fn id_in(p: &[u8], to: usize) -> IdAt
+    ensures { λ r. ⌜ r ≡ idIn (now (p .entry)) to ⌝ }
+{
+    let i = colon(p);
+    if p.len() <= i {
         return IdAt::No;
     }
-    let SmallAt::Is(slot, _) = small_of(
-        line,
-        Word {
-            from: w.from,
-            to: middle,
-        },
-    ) else {
+    let Number32::Is(slot) = decimal32(&p[..i]) else {
         return IdAt::No;
     };
-    let SmallAt::Is(generation, to) = small_of(
-        line,
-        Word {
-            from: middle + 1,
-            to: w.to,
-        },
-    ) else {
+    let behind = i + 1;
+    let Number32::Is(generation) = decimal32(&p[behind..]) else {
         return IdAt::No;
     };
     IdAt::Is(slot, generation, to)
 }
 
-pub fn speed(line: &[u8], at: usize) -> SpeedAt {
+// The id of a clock or of a modulator: ID.
+pub fn id(line: &[u8], at: usize) -> IdAt
+    ensures { λ r. ⌜ r ≡ idAt (now (line .entry)) at ⌝ }
+{
+    let w = text::next_word(line, at);
+    id_in(text::part(line, w), w.to)
+}
+
+// A unit and a number: SPEED.
+pub fn speed(line: &[u8], at: usize) -> SpeedAt
+    ensures { λ r. ⌜ r ≡ speedAt (now (line .entry)) at ⌝ }
+{
     let w = text::next_word(line, at);
     let FloatAt::Is(x, to) = float(line, w.to) else {
         return SpeedAt::No;
@@ -175,12 +204,15 @@ pub fn speed(line: &[u8], at: usize) -> SpeedAt {
     SpeedAt::No
 }
 
-pub fn ease(line: &[u8], at: usize) -> EaseAt {
+// A kind of easing, and its power: EASE.
+pub fn ease(line: &[u8], at: usize) -> EaseAt
+    ensures { λ r. ⌜ r ≡ easeAt (now (line .entry)) at ⌝ }
+{
     let w = text::next_word(line, at);
     if is(line, w, b"lin") {
         return EaseAt::Is(Easing::Linear, w.to);
     }
-    let SmallAt::Is(n, to) = small(line, w.to) else {
+    let PowerAt::Is(n, to) = power(line, w.to) else {
         return EaseAt::No;
     };
     if is(line, w, b"in") {
@@ -196,7 +228,9 @@ pub fn ease(line: &[u8], at: usize) -> EaseAt {
 }
 
 // A time of a clock: N F.
-pub fn time(line: &[u8], at: usize, clock: ClockId) -> TimeAt {
+pub fn time(line: &[u8], at: usize, clock: ClockId) -> TimeAt
+    ensures { λ r. ⌜ r ≡ timeAt (now (line .entry)) at clock ⌝ }
+{
     let NumberAt::Is(ticks, behind) = number(line, at) else {
         return TimeAt::No;
     };
@@ -214,21 +248,29 @@ pub fn time(line: &[u8], at: usize, clock: ClockId) -> TimeAt {
 }
 
 // A clock and a time of it: ID N F.
-pub fn clock_time(line: &[u8], at: usize) -> TimeAt {
+pub fn clock_time(line: &[u8], at: usize) -> TimeAt
+    ensures { λ r. ⌜ r ≡ clockTimeAt (now (line .entry)) at ⌝ }
+{
     let IdAt::Is(slot, generation, behind) = id(line, at) else {
         return TimeAt::No;
     };
     time(line, behind, ClockId { slot, generation })
 }
 
-fn delay(line: &[u8], at: usize) -> StartAt {
+// What stands behind `del`: NS.
+fn delay(line: &[u8], at: usize) -> StartAt
+    ensures { λ r. ⌜ r ≡ delayAt (now (line .entry)) at ⌝ }
+{
     let NumberAt::Is(ns, to) = number(line, at) else {
         return StartAt::No;
     };
     StartAt::Is(StartTime::Delayed(ns), to)
 }
 
-pub fn start(line: &[u8], at: usize) -> StartAt {
+// When a tween starts: START.
+pub fn start(line: &[u8], at: usize) -> StartAt
+    ensures { λ r. ⌜ r ≡ startAt (now (line .entry)) at ⌝ }
+{
     let w = text::next_word(line, at);
     if is(line, w, b"imm") {
         return StartAt::Is(StartTime::Immediate, w.to);
@@ -245,7 +287,10 @@ pub fn start(line: &[u8], at: usize) -> StartAt {
     StartAt::Is(StartTime::At(t), to)
 }
 
-pub fn float_map(line: &[u8], at: usize) -> FloatMapAt {
+// A mapping to doubles: FMAP.
+pub fn float_map(line: &[u8], at: usize) -> FloatMapAt
+    ensures { λ r. ⌜ r ≡ floatMapAt (now (line .entry)) at ⌝ }
+{
     let FloatAt::Is(in_lo, a) = float(line, at) else {
         return FloatMapAt::No;
     };
@@ -273,7 +318,10 @@ pub fn float_map(line: &[u8], at: usize) -> FloatMapAt {
     )
 }
 
-pub fn speed_map(line: &[u8], at: usize) -> SpeedMapAt {
+// A mapping to speeds: SMAP.
+pub fn speed_map(line: &[u8], at: usize) -> SpeedMapAt
+    ensures { λ r. ⌜ r ≡ speedMapAt (now (line .entry)) at ⌝ }
+{
     let FloatAt::Is(in_lo, a) = float(line, at) else {
         return SpeedMapAt::No;
     };
@@ -301,7 +349,10 @@ pub fn speed_map(line: &[u8], at: usize) -> SpeedMapAt {
     )
 }
 
-pub fn float_value(line: &[u8], at: usize) -> FloatValueAt {
+// A double that is fixed or a modulator's: FVAL.
+pub fn float_value(line: &[u8], at: usize) -> FloatValueAt
+    ensures { λ r. ⌜ r ≡ floatValueAt (now (line .entry)) at ⌝ }
+{
     let w = text::next_word(line, at);
     if is(line, w, b"fix") {
         let FloatAt::Is(x, to) = float(line, w.to) else {
@@ -324,7 +375,10 @@ pub fn float_value(line: &[u8], at: usize) -> FloatValueAt {
     )
 }
 
-pub fn wave(line: &[u8], at: usize) -> WaveAt {
+// A waveform: WAVE.
+pub fn wave(line: &[u8], at: usize) -> WaveAt
+    ensures { λ r. ⌜ r ≡ waveAt (now (line .entry)) at ⌝ }
+{
     let w = text::next_word(line, at);
     if is(line, w, b"tri") {
         return WaveAt::Is(Waveform::Triangle, w.to);
