@@ -70,12 +70,12 @@ unfolding told float ticks clock subFloatOf laterOf earlierOf
 minus n f x e = record { computed = told ticks (subFloatOf (record { clock = clock; ticks = n; fraction = float f }) (float x)); expected = e }
 
 perMinute : ℕ → List ℕ → Row
-unfolding told float bits
+unfolding told float bits asTpsOf
 perMinute x e = record { computed = told bits (asTpsOf (TicksPerMinute (float x))); expected = e }
 
 -- input x of 0..10 to 100..200
 mapped : ℕ → List ℕ → Row
-unfolding told float bits mapFloatOf amountOf applyOf
+unfolding told float bits mapFOf mapFloatOf amountOf applyOf
 mapped x e =
     record {
       computed = told bits (mapFOf (record { «in_lo» = float 0; «in_hi» = float 0x4024_0000_0000_0000; «out_lo» = float 0x4059_0000_0000_0000; «out_hi» = float 0x4069_0000_0000_0000; easing = Linear }) (float x));
@@ -83,11 +83,11 @@ mapped x e =
     }
 
 inOut2 : ℕ → List ℕ → Row
-unfolding told float bits applyOf inOutOf powerOf
+unfolding told float bits easeOf applyOf inOutOf powerOf
 inOut2 x e = record { computed = told bits (easeOf (InOutPowi 2) (float x)); expected = e }
 
 triangle : ℕ → List ℕ → Row
-unfolding told float bits waveValueOf
+unfolding told float bits waveOf waveValueOf
 triangle x e = record { computed = told bits (waveOf Triangle (float x)); expected = e }
 
 -- ---- the table

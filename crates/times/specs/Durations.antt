@@ -19,5 +19,5 @@ nanosOf (fin false m e) = cond (ltb (60 * down e) (m * up e)) 0 (closest (m * up
 unfoldable pub secondsOf : ℕ → Float
 secondsOf n = add binary64 (ofInt binary64 (pos (n / 1000000000))) (div binary64 (ofInt binary64 (pos (n % 1000000000))) (ofInt binary64 (pos 1000000000)))
 
-abbrev pub secsOf : ℕ → Answer Float
+unfoldable pub secsOf : ℕ → Answer Float
 secsOf n = judged (spanFaults n) (accepted (secondsOf n))

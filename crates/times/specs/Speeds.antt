@@ -15,7 +15,7 @@ use Rattle.times.specs.declared.clock_speed.Speeded.the-variants.{Is, Re
 abbrev pub interpolateOf : Float → Float → Float → Float
 interpolateOf a b amount = add binary64 a (mul binary64 (sub binary64 b a) amount)
 
-abbrev pub lerpOf : Float → Float → Float → Answer Float
+unfoldable pub lerpOf : Float → Float → Float → Answer Float
 lerpOf a b amount = judged (bothFaults (bothFaults (floatFaults a) (floatFaults b)) (floatFaults amount)) (accepted (interpolateOf a b amount))
 
 abbrev pub sixtyF : Float
@@ -73,16 +73,16 @@ speedFaults s = faultsOfSpeed (badSpeed s)
 abbrev pub readFaults : ClockSpeed → ClockSpeed → Faults
 readFaults s target = faultsOfSpeed (badReading s target)
 
-abbrev pub asSptOf : ClockSpeed → Answer Float
+unfoldable pub asSptOf : ClockSpeed → Answer Float
 asSptOf s = judged (speedFaults s) (accepted (sptOf s))
 
-abbrev pub asTpsOf : ClockSpeed → Answer Float
+unfoldable pub asTpsOf : ClockSpeed → Answer Float
 asTpsOf s = judged (speedFaults s) (accepted (tpsOf s))
 
-abbrev pub asTpmOf : ClockSpeed → Answer Float
+unfoldable pub asTpmOf : ClockSpeed → Answer Float
 asTpmOf s = judged (speedFaults s) (accepted (tpmOf s))
 
-abbrev pub lerpSpeedOf : ClockSpeed → ClockSpeed → Float → Answer ClockSpeed
+unfoldable pub lerpSpeedOf : ClockSpeed → ClockSpeed → Float → Answer ClockSpeed
 lerpSpeedOf a b amount =
     judged (bothFaults (bothFaults (bothFaults (speedFaults a) (speedFaults b)) (readFaults a b)) (floatFaults amount))
     (accepted (interpolateSpeedOf a b amount))

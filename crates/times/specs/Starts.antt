@@ -40,7 +40,7 @@ updateOf Immediate dt w = waiting false Immediate
 updateOf (Delayed n) dt w = waiting false (delayOf (n - nanosOf dt))
 updateOf (At t) dt w = awaitedOf t w
 
-abbrev pub startUpOf : StartTime → Float → When → Answer Waited
+unfoldable pub startUpOf : StartTime → Float → When → Answer Waited
 startUpOf s dt w = judged (bothFaults (dtFaults dt) (startFaults s)) (accepted (updateOf s dt w))
 
 abbrev pub toldStart : StartUp → Answer Waited

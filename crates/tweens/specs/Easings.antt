@@ -57,7 +57,7 @@ easeFaults e = record { dt = false; float = false; speed = false; ease = badEase
 abbrev pub tweenFaults : Tween → Faults
 tweenFaults t = bothFaults (bothFaults (startFaults (t .«start_time»)) (spanFaults (t .duration))) (easeFaults (t .easing))
 
-abbrev pub easeOf : Easing → Float → Answer Float
+unfoldable pub easeOf : Easing → Float → Answer Float
 easeOf e x = judged (bothFaults (easeFaults e) (floatFaults x)) (accepted (applyOf e x))
 
 -- time / duration in seconds, eased

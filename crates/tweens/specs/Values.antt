@@ -77,10 +77,10 @@ abbrev pub speedValueFaults : SpeedValue → Faults
 speedValueFaults (speed.Fixed s) = faultsOfSpeed (badSpeed s)
 speedValueFaults (speed.FromModulator i m) = speedMapFaults m
 
-abbrev pub mapFOf : FloatMapping → Float → Answer Float
+unfoldable pub mapFOf : FloatMapping → Float → Answer Float
 mapFOf m x = judged (bothFaults (floatMapFaults m) (floatFaults x)) (accepted (mapFloatOf m x))
 
-abbrev pub mapSOf : SpeedMapping → Float → Answer ClockSpeed
+unfoldable pub mapSOf : SpeedMapping → Float → Answer ClockSpeed
 mapSOf m x = judged (bothFaults (speedMapFaults m) (floatFaults x)) (accepted (mapSpeedOf m x))
 
 -- ---- "Fixed or from a modulator": the value, or none where the modulator does not live
@@ -121,10 +121,10 @@ madeValueOf (float.Fixed x) o = float.Fixed (madeOf o x)
 madeValueOf (float.FromModulator i m) o = float.FromModulator i (madeMapOf m o)
 
 -- BAD_FLOAT: "an argument, or an end made by adding, subtracting, multiplying, dividing, remainder or negation on a value or mapping"
-abbrev pub mapOutputOf : FloatMapping → Op → Answer FloatMapping
+unfoldable pub mapOutputOf : FloatMapping → Op → Answer FloatMapping
 mapOutputOf m o = judged (bothFaults (bothFaults (floatMapFaults m) (opFaults o)) (floatMapFaults (madeMapOf m o))) (accepted (madeMapOf m o))
 
-abbrev pub valueOutputOf : FloatValue → Op → Answer FloatValue
+unfoldable pub valueOutputOf : FloatValue → Op → Answer FloatValue
 valueOutputOf v o = judged (bothFaults (bothFaults (floatValueFaults v) (opFaults o)) (floatValueFaults (madeValueOf v o))) (accepted (madeValueOf v o))
 
 abbrev pub toldMap : Mapped → Answer FloatMapping

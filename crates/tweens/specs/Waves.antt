@@ -31,5 +31,5 @@ waveFaults Triangle = noFaults
 waveFaults Saw = noFaults
 waveFaults (Pulse width) = floatFaults width
 
-abbrev pub waveOf : Waveform → Float → Answer Float
+unfoldable pub waveOf : Waveform → Float → Answer Float
 waveOf w p = judged (bothFaults (waveFaults w) (floatFaults p)) (accepted (waveValueOf w p))

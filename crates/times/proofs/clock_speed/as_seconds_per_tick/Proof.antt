@@ -1,12 +1,15 @@
 -- `as_seconds_per_tick` meets its contract: it judges the speed, and answers the number of its fault or what `seconds_per_tick` reads. Assumes nothing.
+use Rattle.times.specs.Speeds.{asSptOf}
 use Rattle.times.proofs.Judged.{refuses, gives}
 use Rattle.times.proofs.clock_speed.as_seconds_per_tick.Statement.{statement}
 use Rattle.times.proofs.clock_speed.as_seconds_per_tick.Tie as tie
 
 returns : tie.Need-returns
+unfolding asSptOf
 returns c = refuses _ _ (c .before .first-fault .ensures) (c .before .before .speed-faults .ensures) (c .if1 .taken)
 
 returns-2 : tie.Need-returns-2
+unfolding asSptOf
 returns-2 c = gives _ (c .before .before .first-fault .ensures) (c .before .before .before .speed-faults .ensures) (c .before .if1 .left) (c .seconds-per-tick .ensures)
 
 pub as-seconds-per-tick-spec : {M : Type 1} → statement M

@@ -1,12 +1,15 @@
 -- `as_ticks_per_second` meets its contract: it judges the speed, and answers the number of its fault or what `ticks_per_second` reads. Assumes nothing.
+use Rattle.times.specs.Speeds.{asTpsOf}
 use Rattle.times.proofs.Judged.{refuses, gives}
 use Rattle.times.proofs.clock_speed.as_ticks_per_second.Statement.{statement}
 use Rattle.times.proofs.clock_speed.as_ticks_per_second.Tie as tie
 
 returns : tie.Need-returns
+unfolding asTpsOf
 returns c = refuses _ _ (c .before .first-fault .ensures) (c .before .before .speed-faults .ensures) (c .if1 .taken)
 
 returns-2 : tie.Need-returns-2
+unfolding asTpsOf
 returns-2 c = gives _ (c .before .before .first-fault .ensures) (c .before .before .before .speed-faults .ensures) (c .before .if1 .left) (c .ticks-per-second .ensures)
 
 pub as-ticks-per-second-spec : {M : Type 1} → statement M

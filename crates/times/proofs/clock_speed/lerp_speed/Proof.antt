@@ -1,7 +1,7 @@
 -- `lerp_speed` meets its contract: it joins the faults of both speeds, of the first read in the second's unit, and of the amount, and answers the number of the first fault or what `interpolate_speed` gives. Assumes nothing.
 use mathlib.Core.Path.{_≡_}
 use Rattle.times.specs.Judge.{bothFaults, floatFaults}
-use Rattle.times.specs.Speeds.{speedFaults, readFaults}
+use Rattle.times.specs.Speeds.{speedFaults, readFaults, lerpSpeedOf}
 use Rattle.times.proofs.Judged.{joined, refuses, gives}
 use Rattle.times.proofs.clock_speed.lerp_speed.Statement.{statement}
 use Rattle.times.proofs.clock_speed.lerp_speed.Tie as tie
@@ -20,9 +20,11 @@ faults c =
     (c .before .float-faults .ensures)
 
 returns : tie.Need-returns
+unfolding lerpSpeedOf
 returns c = refuses _ _ (c .before .first-fault .ensures) (faults (c .before .before)) (c .if1 .taken)
 
 returns-2 : tie.Need-returns-2
+unfolding lerpSpeedOf
 returns-2 c = gives _ (c .before .before .first-fault .ensures) (faults (c .before .before .before)) (c .before .if1 .left) (c .interpolate-speed .ensures)
 
 pub lerp-speed-spec : {M : Type 1} → statement M

@@ -1,7 +1,7 @@
 -- `start_up` meets its contract: it joins the faults of dt and of the start time, and answers the number of the first fault or what `update` gives. Assumes nothing.
 use mathlib.Core.Path.{_≡_}
 use Rattle.times.specs.Judge.{bothFaults, dtFaults}
-use Rattle.times.specs.Starts.{startFaults}
+use Rattle.times.specs.Starts.{startFaults, startUpOf}
 use Rattle.times.proofs.Judged.{joined, refuses, gives}
 use Rattle.times.proofs.start_time.start_up.Statement.{statement}
 use Rattle.times.proofs.start_time.start_up.Tie as tie
@@ -14,9 +14,11 @@ faults : (c : tie.After-both) → c .both .result ≡ bothFaults (dtFaults (star
 faults c = joined _ _ (c .both .ensures) (c .before .before .dt-faults .ensures) (c .before .start-faults .ensures)
 
 returns : tie.Need-returns
+unfolding startUpOf
 returns c = refuses _ _ (c .before .first-fault .ensures) (faults (c .before .before)) (c .if1 .taken)
 
 returns-2 : tie.Need-returns-2
+unfolding startUpOf
 returns-2 c = gives _ (c .before .before .first-fault .ensures) (faults (c .before .before .before)) (c .before .if1 .left) (c .update .ensures)
 
 pub start-up-spec : {M : Type 1} → statement M

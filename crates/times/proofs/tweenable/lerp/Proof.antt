@@ -3,6 +3,7 @@ use borrow.Author.Needs.{needs}
 use mathlib.Core.Path.{_≡_, ap, _∙_}
 use Rattle.times.specs.Answer.{accepted}
 use Rattle.times.specs.Judge.{bothFaults, floatFaults}
+use Rattle.times.specs.Speeds.{lerpOf}
 use Rattle.times.proofs.Judged.{joined, refuses, accepts}
 use Rattle.times.proofs.tweenable.lerp.Statement.{statement}
 use Rattle.times.proofs.tweenable.lerp.Tie as tie
@@ -31,12 +32,14 @@ faults c =
     joined _ _ (c .both2 .ensures) (joined _ _ (c .before .before .both .ensures) (c .before .before .before .before .float-faults .ensures) (c .before .before .before .float-faults2 .ensures)) (c .before .float-faults3 .ensures)
 
 returns : tie.Need-returns
+unfolding lerpOf
 returns c = refuses _ _ (c .before .first-fault .ensures) (faults (c .before .before)) (c .if1 .taken)
 
 interpolate-requires : tie.Need-interpolate-requires
 interpolate-requires c κs = search needs
 
 returns-2 : tie.Need-returns-2
+unfolding lerpOf
 returns-2 c = ap accepted (c .interpolate .ensures) ∙ accepts _ _ (c .before .before .first-fault .ensures) (faults (c .before .before .before)) (c .before .if1 .left)
 
 pub lerp-spec : {M : Type 1} → statement M

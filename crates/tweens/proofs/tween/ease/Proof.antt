@@ -2,7 +2,7 @@
 use mathlib.Core.Path.{_≡_}
 use Rattle.times.specs.Judge.{bothFaults, floatFaults}
 use Rattle.times.proofs.Judged.{joined, refuses, gives}
-use Rattle.tweens.specs.Easings.{easeFaults}
+use Rattle.tweens.specs.Easings.{easeFaults, easeOf}
 use Rattle.tweens.proofs.tween.ease.Statement.{statement}
 use Rattle.tweens.proofs.tween.ease.Tie as tie
 
@@ -14,9 +14,11 @@ faults : (c : tie.After-both) → c .both .result ≡ bothFaults (easeFaults (st
 faults c = joined _ _ (c .both .ensures) (c .before .before .ease-faults .ensures) (c .before .float-faults .ensures)
 
 returns : tie.Need-returns
+unfolding easeOf
 returns c = refuses _ _ (c .before .first-fault .ensures) (faults (c .before .before)) (c .if1 .taken)
 
 returns-2 : tie.Need-returns-2
+unfolding easeOf
 returns-2 c = gives _ (c .before .before .first-fault .ensures) (faults (c .before .before .before)) (c .before .if1 .left) (c .apply .ensures)
 
 pub ease-spec : {M : Type 1} → statement M

@@ -1,7 +1,7 @@
 -- `map_output` meets its contract: it joins the faults of the mapping, of the operation and of the mapping made, and answers the number of the first fault or the mapping made. Assumes nothing.
 use mathlib.Core.Path.{_≡_, ap, _∙_}
 use Rattle.times.specs.Judge.{bothFaults}
-use Rattle.tweens.specs.Values.{floatMapFaults, opFaults, madeMapOf}
+use Rattle.tweens.specs.Values.{floatMapFaults, opFaults, madeMapOf, mapOutputOf}
 use Rattle.times.proofs.Judged.{joined, refuses, gives}
 use Rattle.tweens.proofs.value.map_output.Statement.{statement}
 use Rattle.tweens.proofs.value.map_output.Tie as tie
@@ -18,9 +18,11 @@ faults c =
     (c .before .float-map-faults2 .ensures ∙ ap floatMapFaults (c .before .before .before .before .before .made-map .ensures))
 
 returns : tie.Need-returns
+unfolding mapOutputOf
 returns c = refuses _ _ (c .before .first-fault .ensures) (faults (c .before .before)) (c .if1 .taken)
 
 returns-2 : tie.Need-returns-2
+unfolding mapOutputOf
 returns-2 c = gives _ (c .before .first-fault .ensures) (faults (c .before .before)) (c .if1 .left) (c .before .before .before .before .before .before .before .made-map .ensures)
 
 pub map-output-spec : {M : Type 1} → statement M

@@ -1,7 +1,7 @@
 -- `map_s` meets its contract: it joins the faults of the mapping and of the input, and answers the number of the first fault or what `map_speed` gives. Assumes nothing.
 use mathlib.Core.Path.{_≡_}
 use Rattle.times.specs.Judge.{bothFaults, floatFaults}
-use Rattle.tweens.specs.Values.{speedMapFaults}
+use Rattle.tweens.specs.Values.{speedMapFaults, mapSOf}
 use Rattle.times.proofs.Judged.{joined, refuses, gives}
 use Rattle.tweens.proofs.value.map_s.Statement.{statement}
 use Rattle.tweens.proofs.value.map_s.Tie as tie
@@ -14,9 +14,11 @@ faults : (c : tie.After-both) → c .both .result ≡ bothFaults (speedMapFaults
 faults c = joined _ _ (c .both .ensures) (c .before .before .speed-map-faults .ensures) (c .before .float-faults .ensures)
 
 returns : tie.Need-returns
+unfolding mapSOf
 returns c = refuses _ _ (c .before .first-fault .ensures) (faults (c .before .before)) (c .if1 .taken)
 
 returns-2 : tie.Need-returns-2
+unfolding mapSOf
 returns-2 c = gives _ (c .before .before .first-fault .ensures) (faults (c .before .before .before)) (c .before .if1 .left) (c .map-speed .ensures)
 
 pub map-s-spec : {M : Type 1} → statement M

@@ -1,7 +1,7 @@
 -- `value_output` meets its contract: it joins the faults of the value, of the operation and of the value made, and answers the number of the first fault or the value made. Assumes nothing.
 use mathlib.Core.Path.{_≡_, ap, _∙_}
 use Rattle.times.specs.Judge.{bothFaults}
-use Rattle.tweens.specs.Values.{floatValueFaults, opFaults, madeValueOf}
+use Rattle.tweens.specs.Values.{floatValueFaults, opFaults, madeValueOf, valueOutputOf}
 use Rattle.times.proofs.Judged.{joined, refuses, gives}
 use Rattle.tweens.proofs.value.value_output.Statement.{statement}
 use Rattle.tweens.proofs.value.value_output.Tie as tie
@@ -18,9 +18,11 @@ faults c =
     (c .before .float-value-faults2 .ensures ∙ ap floatValueFaults (c .before .before .before .before .before .made-value .ensures))
 
 returns : tie.Need-returns
+unfolding valueOutputOf
 returns c = refuses _ _ (c .before .first-fault .ensures) (faults (c .before .before)) (c .if1 .taken)
 
 returns-2 : tie.Need-returns-2
+unfolding valueOutputOf
 returns-2 c = gives _ (c .before .first-fault .ensures) (faults (c .before .before)) (c .if1 .left) (c .before .before .before .before .before .before .before .made-value .ensures)
 
 pub value-output-spec : {M : Type 1} → statement M

@@ -2,7 +2,7 @@
 use mathlib.Core.Path.{_≡_}
 use Rattle.times.specs.Judge.{bothFaults, floatFaults}
 use Rattle.times.proofs.Judged.{joined, refuses, gives}
-use Rattle.tweens.specs.Waves.{waveFaults}
+use Rattle.tweens.specs.Waves.{waveFaults, waveOf}
 use Rattle.tweens.proofs.waveform.wave.Statement.{statement}
 use Rattle.tweens.proofs.waveform.wave.Tie as tie
 
@@ -14,9 +14,11 @@ faults : (c : tie.After-both) → c .both .result ≡ bothFaults (waveFaults (st
 faults c = joined _ _ (c .both .ensures) (c .before .before .wave-faults .ensures) (c .before .float-faults .ensures)
 
 returns : tie.Need-returns
+unfolding waveOf
 returns c = refuses _ _ (c .before .first-fault .ensures) (faults (c .before .before)) (c .if1 .taken)
 
 returns-2 : tie.Need-returns-2
+unfolding waveOf
 returns-2 c = gives _ (c .before .before .first-fault .ensures) (faults (c .before .before .before)) (c .before .if1 .left) (c .wave-value .ensures)
 
 pub wave-spec : {M : Type 1} → statement M
