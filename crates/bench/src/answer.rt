@@ -1,9 +1,9 @@
 // One line's answer. Each family of calls answers its own lines and leaves the others.
-use crate::curves;
-use crate::floats;
 use crate::instants;
 use crate::mappings;
-use crate::speeds;
+use calls::curves;
+use calls::floats;
+use calls::speeds;
 use text::Word;
 
 // The answer to a line that is no call, and whether it was written.

@@ -2,11 +2,8 @@
 // docs/BENCH.md has the calls. Input has no cap: it is taken in portions, and what has been read is
 // answered before more is read.
 mod answer;
-mod curves;
-mod floats;
 mod instants;
 mod mappings;
-mod speeds;
 
 // The longest line, its LF not counted, and a count that stands for a longer one.
 const LONGEST: usize = 1024;

@@ -1,4 +1,7 @@
 // The calls speed.*.
+ghost use mathlib.Core.Path.{_≡_};
+ghost use Rattle.answers.specs.Answers.{place, putAll};
+ghost use Rattle.calls.specs.Calls.{speedLerpReply, speedsOf};
 use grammar::FloatAt;
 use grammar::SpeedAt;
 use text::Word;
@@ -8,7 +11,9 @@ use times::clock_speed::as_ticks_per_minute;
 use times::clock_speed::as_ticks_per_second;
 use times::clock_speed::lerp_speed;
 
-fn lerp(line: &[u8], at: usize, a: ClockSpeed, out: &mut [u8]) -> usize {
+fn lerp(line: &[u8], at: usize, a: ClockSpeed, out: &mut [u8]) -> usize
+    ensures { λ r. ⌜ place (now (out .exit)) r ≡ putAll (place (now (out .entry)) 0) (speedLerpReply (now (line .entry)) at a) ⌝ }
+{
     let SpeedAt::Is(b, behind) = grammar::speed(line, at) else {
         return 0;
     };
@@ -22,7 +27,9 @@ fn lerp(line: &[u8], at: usize, a: ClockSpeed, out: &mut [u8]) -> usize {
 }
 
 // The answer's length, or 0 where the line is no call of this family.
-pub fn call(line: &[u8], name: Word, out: &mut [u8]) -> usize {
+pub fn call(line: &[u8], name: Word, out: &mut [u8]) -> usize
+    ensures { λ r. ⌜ place (now (out .exit)) r ≡ putAll (place (now (out .entry)) 0) (speedsOf (now (line .entry)) name) ⌝ }
+{
     let SpeedAt::Is(s, to) = grammar::speed(line, name.to) else {
         return 0;
     };

@@ -1,11 +1,17 @@
 // The calls ease, lerp and wave, and dur.secs and tween.default.
+ghost use mathlib.Core.Path.{_≡_};
+ghost use Rattle.answers.specs.Answers.{place, putAll, lineOf};
+ghost use Rattle.calls.specs.Calls.{tweenText, easeReply, lerpReply, waveReply, secsReply, defaultReply, curvesOf};
 use grammar::EaseAt;
 use grammar::FloatAt;
 use grammar::NumberAt;
 use grammar::WaveAt;
 use text::Word;
+use tweens::tween::Tween;
 
-fn ease(line: &[u8], at: usize, out: &mut [u8]) -> usize {
+fn ease(line: &[u8], at: usize, out: &mut [u8]) -> usize
+    ensures { λ r. ⌜ place (now (out .exit)) r ≡ putAll (place (now (out .entry)) 0) (easeReply (now (line .entry)) at) ⌝ }
+{
     let EaseAt::Is(e, behind) = grammar::ease(line, at) else {
         return 0;
     };
@@ -18,7 +24,9 @@ fn ease(line: &[u8], at: usize, out: &mut [u8]) -> usize {
     answers::floated(out, tweens::tween::ease(e, x))
 }
 
-fn lerp(line: &[u8], at: usize, out: &mut [u8]) -> usize {
+fn lerp(line: &[u8], at: usize, out: &mut [u8]) -> usize
+    ensures { λ r. ⌜ place (now (out .exit)) r ≡ putAll (place (now (out .entry)) 0) (lerpReply (now (line .entry)) at) ⌝ }
+{
     let FloatAt::Is(a, to_a) = grammar::float(line, at) else {
         return 0;
     };
@@ -34,7 +42,9 @@ fn lerp(line: &[u8], at: usize, out: &mut [u8]) -> usize {
     answers::floated(out, times::tweenable::lerp(a, b, amount))
 }
 
-fn wave(line: &[u8], at: usize, out: &mut [u8]) -> usize {
+fn wave(line: &[u8], at: usize, out: &mut [u8]) -> usize
+    ensures { λ r. ⌜ place (now (out .exit)) r ≡ putAll (place (now (out .entry)) 0) (waveReply (now (line .entry)) at) ⌝ }
+{
     let WaveAt::Is(w, behind) = grammar::wave(line, at) else {
         return 0;
     };
@@ -47,7 +57,9 @@ fn wave(line: &[u8], at: usize, out: &mut [u8]) -> usize {
     answers::floated(out, tweens::waveform::wave(w, phase))
 }
 
-fn secs(line: &[u8], at: usize, out: &mut [u8]) -> usize {
+fn secs(line: &[u8], at: usize, out: &mut [u8]) -> usize
+    ensures { λ r. ⌜ place (now (out .exit)) r ≡ putAll (place (now (out .entry)) 0) (secsReply (now (line .entry)) at) ⌝ }
+{
     let NumberAt::Is(ns, to) = grammar::number(line, at) else {
         return 0;
     };
@@ -57,12 +69,10 @@ fn secs(line: &[u8], at: usize, out: &mut [u8]) -> usize {
     answers::floated(out, times::duration::secs(ns))
 }
 
-// START NS EASE.
-fn default_tween(line: &[u8], at: usize, out: &mut [u8]) -> usize {
-    if !grammar::ended(line, at) {
-        return 0;
-    }
-    let t = tweens::tween::default_tween();
+// A whole answer: START NS EASE.
+fn tween(out: &mut [u8], t: Tween) -> usize
+    ensures { λ r. ⌜ place (now (out .exit)) r ≡ putAll (place (now (out .entry)) 0) (lineOf (tweenText t)) ⌝ }
+{
     let start = t.start_time;
     let easing = t.easing;
     let a = answers::start(out, 0, start);
@@ -73,8 +83,19 @@ fn default_tween(line: &[u8], at: usize, out: &mut [u8]) -> usize {
     answers::end(out, e)
 }
 
+fn default_tween(line: &[u8], at: usize, out: &mut [u8]) -> usize
+    ensures { λ r. ⌜ place (now (out .exit)) r ≡ putAll (place (now (out .entry)) 0) (defaultReply (now (line .entry)) at) ⌝ }
+{
+    if !grammar::ended(line, at) {
+        return 0;
+    }
+    tween(out, tweens::tween::default_tween())
+}
+
 // The answer's length, or 0 where the line is no call of this family.
-pub fn call(line: &[u8], name: Word, out: &mut [u8]) -> usize {
+pub fn call(line: &[u8], name: Word, out: &mut [u8]) -> usize
+    ensures { λ r. ⌜ place (now (out .exit)) r ≡ putAll (place (now (out .entry)) 0) (curvesOf (now (line .entry)) name) ⌝ }
+{
     let at = name.to;
     if grammar::is(line, name, b"ease") {
         return ease(line, at, out);
