@@ -116,6 +116,7 @@ pub fn call(line: &[u8], name: Word, out: &mut [u8]) -> usize {
     if grammar::is(line, name, b"map.s") {
         return speed_map(line, at, out);
     }
+    // A line is no longer than this, so the four bytes of `map.` or `val.` can be counted on.
     if name.from > 1023 {
         return 0;
     }

@@ -1,4 +1,4 @@
--- Document 01, "Worked rows": those marked *, as a single table with a single claim. Each row is computed through the very definitions that the entries' contracts cite. Doubles are written by their bits. Assumes nothing.
+-- Document 01, "Worked rows": those marked * that are about doubles, times and tweens, as a single table with a single claim; those of speed 0, of 5 per second and of the delay belong to clocks and parameters. Each row is computed through the very definitions that the entries' contracts cite. Doubles are written by their bits. Assumes nothing.
 use Prim.Native.Nat.{ℕ}
 use mathlib.Core.Bool.{Bool, true, false}
 use mathlib.Core.List.{List, [], _∷_}

@@ -12,7 +12,7 @@ use Rattle.times.specs.declared.judge.Faults.{Faults}
 abbrev pub noFaults : Faults
 noFaults = record { dt = false; float = false; speed = false; ease = false; map = false; time = false }
 
--- "all refusals of one call": what is wrong with either of two arguments
+-- what is wrong with either of two arguments: "nothing earlier in the order applies" is asked of a whole call
 abbrev pub bothFaults : Faults → Faults → Faults
 bothFaults a b = record {
   dt = a .dt || b .dt;

@@ -30,7 +30,7 @@ fromTicksOf c n = record { clock = c; ticks = n; fraction = zeroF }
 unfoldable pub fromFloatOf : ClockId → Float → Answer ClockTime
 fromFloatOf c x = judged (bothFaults (floatFaults x) (timeFaults (signOf x))) (accepted (record { clock = c; ticks = toUnsigned 64 x; fraction = fractOf x }))
 
--- the same clock and fraction at n ticks; TICKS_FULL: "ticks would pass 2^64 − 1"
+-- the same clock, at n ticks and the fraction f; TICKS_FULL: "ticks would pass 2^64 − 1"
 abbrev pub atTicks : ClockTime → ℕ → Float → Answer ClockTime
 atTicks t n f = cond (ltb (2 ^ 64 - 1) n) (refused 10) (accepted (record { clock = t .clock; ticks = n; fraction = f }))
 
@@ -43,20 +43,20 @@ subTicksOf t n =
     judged (fractionFaults (t .fraction))
     (cond (ltb (t .ticks) n) (refused 12) (accepted (record { clock = t .clock; ticks = t .ticks - n; fraction = t .fraction })))
 
--- what is wrong with a time and an amount
-abbrev pub shiftFaults : ClockTime → Float → Answer ClockTime → Answer ClockTime
-shiftFaults t x = judged (bothFaults (floatFaults x) (fractionFaults (t .fraction)))
+-- an answer, judged by a time and an amount
+abbrev pub shiftJudged : ClockTime → Float → Answer ClockTime → Answer ClockTime
+shiftJudged t x = judged (bothFaults (floatFaults x) (fractionFaults (t .fraction)))
 
 -- "Add: s = fraction + x; ticks + whole(s), fract(s)."
 unfoldable pub laterOf : ClockTime → Float → Answer ClockTime
 laterOf t x =
-    shiftFaults t x
+    shiftJudged t x
     (atTicks t (t .ticks + toUnsigned 64 (wholeOf (add binary64 (t .fraction) x))) (fractOf (add binary64 (t .fraction) x)))
 
 -- "Subtract: fraction (fract(fraction − x) + 1) % 1; ticks less ceil(x − fraction), never below 0", which a difference of ℕ never is
 unfoldable pub earlierOf : ClockTime → Float → Answer ClockTime
 earlierOf t x =
-    shiftFaults t x
+    shiftJudged t x
     (accepted (record {
       clock = t .clock;
       ticks = t .ticks - toUnsigned 64 (ceilOf (sub binary64 x (t .fraction)));
