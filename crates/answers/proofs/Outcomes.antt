@@ -21,6 +21,8 @@ use Rattle.answers.proofs.ease.Reads as ease
 use Rattle.answers.proofs.ease.Kinds as ease-kinds
 use Rattle.answers.proofs.time.Reads as time
 use Rattle.answers.proofs.time.Kinds as time-kinds
+use Rattle.answers.proofs.id.Reads as id
+use Rattle.answers.proofs.id.Kinds as id-kinds
 use Rattle.answers.proofs.start.Reads as start
 use Rattle.answers.proofs.start.Kinds as start-kinds
 use Rattle.answers.proofs.float_map.Reads as float-map
@@ -65,6 +67,9 @@ one-ease κs a x y s t = same
 
 pub one-time : Same 1 time-kinds.ps time-kinds.r time.Post (λ κs s. now (s .0))
 one-time κs a x y s t = same
+
+pub one-id : Same 1 id-kinds.ps id-kinds.r id.Post (λ κs s. now (s .0))
+one-id κs a x y s t = same
 
 pub one-start : Same 1 start-kinds.ps start-kinds.r start.Post (λ κs s. now (s .0))
 one-start κs a x y s t = same

@@ -105,7 +105,7 @@ pub fn time(out: &mut [u8], at: usize, t: ClockTime) -> usize
 }
 
 // A slot, and its generation.
-fn id(out: &mut [u8], at: usize, slot: u32, generation: u32) -> usize
+pub fn id(out: &mut [u8], at: usize, slot: u32, generation: u32) -> usize
     ensures { λ r. ⌜ place (now (out .exit)) r ≡ putAll (place (now (out .entry)) at) (idText slot generation) ⌝ }
 {
     let behind = number(out, at, slot as u64);

@@ -1,10 +1,27 @@
-// One line's answer. Each family of calls answers its own lines and leaves the others.
+// One line's answer. Each family of calls answers its own lines and leaves the others; what is asked of
+// the state comes last.
+use crate::act::act;
+use crate::held::State;
 use crate::instants;
 use crate::mappings;
+use asks::Ask;
+use asks::of_line;
 use calls::curves;
 use calls::floats;
 use calls::speeds;
 use text::Word;
+
+// A line that was answered, and whether that could be written; or what it asks of the state.
+pub enum Heard {
+    Answered(bool),
+    Asks(Ask),
+}
+
+// Whether the answer was written, and the state.
+pub struct Done {
+    pub open: bool,
+    pub state: State,
+}
 
 // The answer to a line that is no call, and whether it was written.
 pub fn error() -> bool {
@@ -30,7 +47,8 @@ fn skipped(line: &[u8], first: Word) -> bool {
     line[0] == b'#'
 }
 
-// The call's answer into `out`, and its length. A family that does not know the call answers 0.
+// The answer to a call that takes no state, into `out`, and its length. A family that does not know the
+// call answers 0.
 fn called(line: &[u8], name: Word, out: &mut [u8]) -> usize {
     let n = floats::call(line, name, out);
     if 0 < n {
@@ -51,16 +69,33 @@ fn called(line: &[u8], name: Word, out: &mut [u8]) -> usize {
     mappings::call(line, name, out)
 }
 
-// Answers a line, and says whether the answer was written; a line that is skipped has none.
-pub fn line(line: &[u8]) -> bool {
+// Answers a line that asks nothing of the state; one that is skipped has no answer.
+pub fn line(line: &[u8]) -> Heard {
     let name = text::next_word(line, 0);
     if skipped(line, name) {
-        return true;
+        return Heard::Answered(true);
     }
     let mut out = [0u8; 512];
     let n = called(line, name, &mut out);
     if n == 0 {
-        return error();
+        return Heard::Asks(of_line(line, name));
     }
-    written(&out, n)
+    Heard::Answered(written(&out, n))
+}
+
+// Answers what is asked of the state.
+pub fn asked(ask: Ask, st: State) -> Done {
+    let mut out = [0u8; 512];
+    let a = act(&mut out, st, ask);
+    let state = a.state;
+    if a.n == 0 {
+        return Done {
+            open: error(),
+            state,
+        };
+    }
+    Done {
+        open: written(&out, a.n),
+        state,
+    }
 }

@@ -1,12 +1,8 @@
-// The calls time.* and start.up.
+// The calls time.*.
 use grammar::FloatAt;
 use grammar::NumberAt;
-use grammar::StartAt;
 use grammar::TimeAt;
 use text::Word;
-use times::start_time::StartUp;
-use times::start_time::When;
-use times::start_time::start_up;
 use times::time::ClockId;
 use times::time::ClockTime;
 use times::time::Compared;
@@ -117,29 +113,6 @@ fn cmp(line: &[u8], at: usize, out: &mut [u8]) -> usize {
     compared(out, compare(a, b))
 }
 
-// No clock lives yet, so a clock time never comes.
-fn start(line: &[u8], at: usize, out: &mut [u8]) -> usize {
-    let StartAt::Is(s, behind) = grammar::start(line, at) else {
-        return 0;
-    };
-    let FloatAt::Is(dt, to) = grammar::float(line, behind) else {
-        return 0;
-    };
-    if !grammar::ended(line, to) {
-        return 0;
-    }
-    match start_up(s, dt, When::Never) {
-        StartUp::Is(w) => {
-            let after = w.start;
-            let a = answers::flag(out, 0, w.never);
-            let b = answers::put(out, a, b" ");
-            let c = answers::start(out, b, after);
-            answers::end(out, c)
-        }
-        StartUp::Refused(n) => answers::refused(out, n),
-    }
-}
-
 // The answer's length, or 0 where the line is no call of this family.
 pub fn call(line: &[u8], name: Word, out: &mut [u8]) -> usize {
     let at = name.to;
@@ -163,9 +136,6 @@ pub fn call(line: &[u8], name: Word, out: &mut [u8]) -> usize {
     }
     if grammar::is(line, name, b"time.cmp") {
         return cmp(line, at, out);
-    }
-    if grammar::is(line, name, b"start.up") {
-        return start(line, at, out);
     }
     0
 }

@@ -1,19 +1,35 @@
 // The bench: calls on standard input, one a line, each answered with a line on standard output.
 // docs/BENCH.md has the calls. Input has no cap: it is taken in portions, and what has been read is
 // answered before more is read.
+mod act;
 mod answer;
+mod held;
 mod instants;
 mod mappings;
+
+ghost use Prim.Native.Nat.{_<_};
+ghost use lib.ListN.{length};
+use crate::answer::Heard;
+use crate::held::State;
 
 // The longest line, its LF not counted, and a count that stands for a longer one.
 const LONGEST: usize = 1024;
 
 const TOO_LONG: usize = 1025;
 
-// What is kept between portions: the number of bytes of an unfinished line, and whether to go on.
-pub struct Held {
+// What is kept between portions: the number of bytes of an unfinished line, whether to go on, and the
+// state.
+pub struct Fed {
     pub count: usize,
     pub open: bool,
+    pub state: State,
+}
+
+// A line so far: its bytes, whether it is whole, and the place in the portion behind it.
+pub struct Gathered {
+    pub count: usize,
+    pub whole: bool,
+    pub at: usize,
 }
 
 // One byte more of a line. Bytes past the longest line are not kept.
@@ -25,74 +41,124 @@ fn push(line: &mut [u8], count: usize, b: u8) -> usize {
     TOO_LONG
 }
 
-// Answers a whole line, and says whether the answer was written.
-fn finish(line: &[u8], count: usize) -> bool {
+// Takes the bytes of a portion from a place on, up to a line's end.
+fn gather(line: &mut [u8], held: usize, portion: &[u8], from: usize) -> Gathered
+    requires { ⌜ from < length (now portion) ⌝ }
+    ensures { λ r. ⌜ from < r .at ⌝ }
+{
+    let mut count = held;
+    let mut i = from;
+    while i < portion.len() {
+        let b = portion[i];
+        i += 1;
+        if b == b'\n' {
+            return Gathered {
+                count,
+                whole: true,
+                at: i,
+            };
+        }
+        count = push(line, count, b);
+    }
+    Gathered {
+        count,
+        whole: false,
+        at: i,
+    }
+}
+
+// Hears a whole line.
+fn heard(line: &[u8], count: usize) -> Heard {
     if LONGEST < count {
-        return answer::error();
+        return Heard::Answered(answer::error());
     }
     if line.len() < count {
-        return answer::error();
+        return Heard::Answered(answer::error());
     }
     answer::line(&line[0..count])
 }
 
-// Takes one byte: it ends a line, which is answered, or it is one more of it.
-fn take(line: &mut [u8], count: usize, b: u8) -> Held {
-    if b == b'\n' {
-        let open = finish(line, count);
-        return Held { count: 0, open };
-    }
-    Held {
-        count: push(line, count, b),
-        open: true,
-    }
-}
-
-// Takes every byte of a portion.
-fn feed(line: &mut [u8], held: usize, portion: &[u8]) -> Held {
+// Takes every byte of a portion, and answers each line that ends in it.
+fn feed(line: &mut [u8], held: usize, portion: &[u8], st: State) -> Fed {
     let mut count = held;
-    let mut i: usize = 0;
-    while i < portion.len() {
-        let next = take(line, count, portion[i]);
-        if !next.open {
-            return next;
+    let mut state = st;
+    let mut at: usize = 0;
+    while at < portion.len() {
+        let g = gather(line, count, portion, at);
+        if !g.whole {
+            return Fed {
+                count: g.count,
+                open: true,
+                state,
+            };
         }
-        count = next.count;
-        i += 1;
+        let mut open = true;
+        match heard(line, g.count) {
+            Heard::Answered(written) => {
+                open = written;
+            }
+            Heard::Asks(ask) => {
+                let done = answer::asked(ask, state);
+                state = done.state;
+                open = done.open;
+            }
+        }
+        if !open {
+            return Fed {
+                count: 0,
+                open: false,
+                state,
+            };
+        }
+        count = 0;
+        at = g.at;
     }
-    Held { count, open: true }
+    Fed {
+        count,
+        open: true,
+        state,
+    }
 }
 
 // The input has ended. A last line with no LF is a call too.
-fn ended(line: &[u8], count: usize) -> Held {
-    if 0 < count {
-        finish(line, count);
+fn ended(line: &[u8], held: Fed) -> Fed {
+    let state = held.state;
+    if 0 < held.count {
+        match heard(line, held.count) {
+            Heard::Answered(_) => {}
+            Heard::Asks(ask) => {
+                answer::asked(ask, state);
+            }
+        }
     }
-    Held {
+    Fed {
         count: 0,
         open: false,
+        state,
     }
 }
 
 // Reads once, and takes what came.
-fn turn(line: &mut [u8], count: usize, portion: &mut [u8]) -> Held {
+fn turn(line: &mut [u8], held: Fed, portion: &mut [u8]) -> Fed {
     let got = libc::read(0, portion);
     if got <= 0 {
-        return ended(line, count);
+        return ended(line, held);
     }
     let n = io::count(got, portion);
-    feed(line, count, &portion[..n])
+    let state = held.state;
+    feed(line, held.count, &portion[..n], state)
 }
 
 // A proved loop ends, and nothing says that the input does: it counts down from a number that no run uses up.
 fn all(line: &mut [u8], portion: &mut [u8]) {
-    let mut held = Held {
+    let mut held = Fed {
         count: 0,
         open: true,
+        state: held::new(),
     };
     let mut turns = u64::MAX;
     while turns > 0 && held.open {
-        held = turn(line, held.count, portion);
+        held = turn(line, held, portion);
         turns -= 1;
     }
 }

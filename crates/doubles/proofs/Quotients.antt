@@ -42,7 +42,7 @@ round-number f s n d = elim (either-way f s n d) [ inl l ↦ finite-is (round f 
 -- ---- the exact difference of two finite numbers, as what the format rounds
 
 -- the size of ±a - ±b
-abbrev gap : Bool → ℕ → Bool → ℕ → ℕ
+abbrev pub gap : Bool → ℕ → Bool → ℕ → ℕ
 gap false a false b = a - b + (b - a)
 gap false a true b = a + b
 gap true a false b = a + b
@@ -64,7 +64,7 @@ two-ways f s t a b c = go (ltb a b) (ltb-true a b) (ltb-false a b)
     go true p q = (t, ap (λ (n : ℕ). round f t n c) (more (p refl)))
     go false p q = (s && ltb b a, ap (λ (n : ℕ). round f (s && ltb b a) n c) (less (q refl)))
 
-sum-gap : (f : Format) (s : Bool) (a : ℕ) (t : Bool) (b c : ℕ) → (u : Bool) × (sum f s a (not t) b c ≡ round f u (gap s a t b) c)
+pub sum-gap : (f : Format) (s : Bool) (a : ℕ) (t : Bool) (b c : ℕ) → (u : Bool) × (sum f s a (not t) b c ≡ round f u (gap s a t b) c)
 unfolding sum
 sum-gap f false a false b c = two-ways f false true a b c
 sum-gap f false a true b c = (false, refl)
@@ -121,7 +121,7 @@ gap-pos s a t b h = elim (eq-zero-or-pos (gap s a t b)) [ inl z ↦ absurd (true
 
 -- ---- a double is a whole number of smallest values, so two that differ are one such value apart at least
 
-units-of : (f : Format) (x : Float) → T (fits f x) → T (finite x) → (g : ℕ) × (num x * 2 ^ low f ≡ g * den x)
+pub units-of : (f : Format) (x : Float) → T (fits f x) → T (finite x) → (g : ℕ) × (num x * 2 ^ low f ≡ g * den x)
 units-of f nan F H = absurd H
 units-of f (inf s) F H = absurd H
 units-of f (fin s m e) F H =

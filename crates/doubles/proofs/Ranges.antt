@@ -2,7 +2,7 @@
 use mathlib.Core.Path.{_≡_, refl, sym, ap, _∙_, subst}
 use mathlib.Core.Logic.{_⊎_, inl, inr}
 use Prim.Native.Nat.{ℕ, zero, suc, _+_, _-_, _*_, _/_, _%_, _^_, _≤_, _<_, compare, Ordering, Ordering·lt, Ordering·eq, Ordering·gt}
-use native.Mathlib.Nat.{le-refl, le-trans as leq-trans, le-of-eq, le-of-lt as leq-of-lt, lt-of-lt-of-le as nat-lt-of-lt-of-le, lt-of-le-of-lt, lt-of-mul-lt-mul-right, mul-lt-mul-of-pos-right, le-of-suc-le-suc, lt-irrefl, lt-of-not-le, not-le-of-lt, zero-lt-suc, one-mul, mul-one, mul-assoc, mul-comm, mul-left-comm, mul-right-comm, mul-sub, add-mul, suc-mul, mul-le-mul-left, mul-le-mul-right, le-of-mul-le-mul-right, mul-pos, le-mul-of-pos-right, add-le-add, mul-div-cancel, mod-lt, mod-le, zero-mod, div-add-mod', pow-suc}
+use native.Mathlib.Nat.{le-refl, le-trans as leq-trans, le-of-eq, le-of-lt as leq-of-lt, lt-of-lt-of-le as nat-lt-of-lt-of-le, lt-of-le-of-lt, lt-of-mul-lt-mul-right, mul-lt-mul-of-pos-right, le-of-suc-le-suc, lt-irrefl, lt-of-not-le, not-le-of-lt, zero-lt-suc, one-mul, mul-one, mul-assoc, mul-comm, mul-right-comm, mul-sub, add-mul, suc-mul, mul-le-mul-left, mul-le-mul-right, le-of-mul-le-mul-right, mul-pos, mul-mul-mul-comm, le-mul-of-pos-right, add-le-add, mul-div-cancel, mod-lt, mod-le, zero-mod, div-add-mod', pow-suc}
 use native.Mathlib.Omega.{arith}
 use mathlib.Core.Bool.{Bool, true, false, not, _&&_, cond, true≢false}
 use lib.IntN.{ℤ, pos, negsuc}
@@ -24,7 +24,7 @@ use Rattle.doubles.proofs.Unit.{none, no-times, le→order, Between, In
 
 -- ---- rounding carries a fraction up by half a unit at most
 
-closest-over : (a b : ℕ) → 0 < b → closest a b * b * 2 ≤ a * 2 + b
+pub closest-over : (a b : ℕ) → 0 < b → closest a b * b * 2 ≤ a * 2 + b
 closest-over a b B = go (a / b) (a % b) (compare (a % b * 2) b) (div-add-mod' a b) (eqb→eq (a % b * 2) b) (nleb→lt (a % b * 2) b)
   where
     go : (q r : ℕ) (o : Ordering) → q * b + r ≡ a → (T (isEq o) → r * 2 ≡ b) → (T (not (isLe o)) → b < r * 2) → nearest q o * b * 2 ≤ a * 2 + b
@@ -40,7 +40,7 @@ closest-over a b B = go (a / b) (a % b) (compare (a % b * 2) b) (div-add-mod' a 
         omega arith
 
 -- z of the format's smallest values, rounded
-grid-whole : (f : Format) (z : ℕ) → grid f z (2 ^ low f) ≡ closest z (2 ^ (size z - prec f)) * 2 ^ (size z - prec f)
+pub grid-whole : (f : Format) (z : ℕ) → grid f z (2 ^ low f) ≡ closest z (2 ^ (size z - prec f)) * 2 ^ (size z - prec f)
 grid-whole f z =
     let U = 2 ^ low f in
     let k = size z - prec f in
@@ -82,7 +82,7 @@ over f z = subst (λ (g : ℕ). g * 2 ^ prec f ≤ z * 2 ^ prec f + z) (sym (gri
 -- ---- values in units of the format's smallest value
 
 -- x is finite, on the side s of zero, and g units in size
-abbrev Is : Format → Bool → Float → ℕ → Type 0
+abbrev pub Is : Format → Bool → Float → ℕ → Type 0
 Is f s x g = On s x × (num x * 2 ^ low f ≡ g * den x)
 
 abs-fits : (f : Format) (s : Bool) (m : ℕ) (e : ℤ) → T (fits f (fin s m e)) → T (fits f (fin false m e))
@@ -106,7 +106,7 @@ value-size (inf s) t a c v = absurd v
 value-size (fin s m e) t a c v = v .1
 
 -- what rounds n / d, at most p / q, is on its side, and its units are at most p / q too
-rounds-is : (f : Format) (x hi : Float) (s : Bool) (n d p q : ℕ) → 0 < d → 0 < q → T (fits f hi) → HasValue hi false p q → Rounds f x s n d → n * q ≤ p * d → Is f s x (grid f n d) × (grid f n d * q ≤ p * 2 ^ low f)
+pub rounds-is : (f : Format) (x hi : Float) (s : Bool) (n d p q : ℕ) → 0 < d → 0 < q → T (fits f hi) → HasValue hi false p q → Rounds f x s n d → n * q ≤ p * d → Is f s x (grid f n d) × (grid f n d * q ≤ p * 2 ^ low f)
 rounds-is f x hi s n d p q D Q F v r l =
     let g = grid-le f hi n d p q D Q F v l in
     let w : HasValue x (r .0) (grid f n d) (2 ^ low f) = subst (λ (z : Float). HasValue z (r .0) (grid f n d) (2 ^ low f)) (sym (r .1)) (round-value f (r .0) n d (g .0)) in
@@ -177,7 +177,7 @@ unlike-false true = refl
 unlike-false false = refl
 
 -- times an amount in 0..1: on the same side, and no more units
-is-mul : (f : Format) (s : Bool) (x t : Float) (g : ℕ) → T (fits f x) → Is f s x g → InUnit t → (h : ℕ) × Is f s (mul f x t) h × (h ≤ g)
+pub is-mul : (f : Format) (s : Bool) (x t : Float) (g : ℕ) → T (fits f x) → Is f s x g → InUnit t → (h : ℕ) × Is f s (mul f x t) h × (h ≤ g)
 is-mul f s x t g F p k =
     let hi = abs-held f s x g F p in
     let u = 2 ^ low f in
@@ -268,9 +268,6 @@ Steady c = T (le (round binary64 false (num c * (2 ^ 53 + 1)) (den c * 2 ^ 53)) 
 bound-units : (x c : Float) (u g : ℕ) → 0 < u → num x * u ≡ g * den x → num x * den c ≤ num c * den x → g * den c ≤ num c * u
 bound-units x c u g U e l = transfer g (num c) u (den c) (num x) (num c) (den x) (den c) (den-pos x) (den-pos c) (sym e) refl l
 
-under-units : (lo x : Float) (u g : ℕ) → 0 < u → num x * u ≡ g * den x → num lo * den x ≤ num x * den lo → num lo * u ≤ g * den lo
-under-units lo x u g U e l = transfer (num lo) g (den lo) u (num lo) (num x) (den lo) (den x) (den-pos lo) (den-pos x) refl (sym e) l
-
 mixed-most : (q a b n d v : ℕ) → Mixed q a b n → a * d ≤ v → b * d ≤ v → n * (d * q) ≤ v * (q + 1)
 mixed-most q a b n d v m A B = elim m [ inl h ↦ go b (leq-trans (h .2) (leq-trans (fewer (b * q) a b) (le-of-eq (sym (one-more b q))))) B | inr h ↦ go a (leq-trans (mul-le-mul-right q (h .1)) (leq-trans (more (a * q) a) (le-of-eq (sym (one-more a q))))) A ]
   where
@@ -357,36 +354,44 @@ lerp-twice a b t c F G H h k l =
 
 -- ---- a mix of numbers above zero is above zero
 
-low-units : (a b n u : ℕ) → b * 2 ^ 53 ≤ n * 2 ^ 53 + (a - b) → 1 * u ≤ b * 2 ^ 20 → a * 1 ≤ 2 ^ 27 * u → u ≤ n * 2 ^ 21
-low-units a b n u h k l = omega arith
+under-units : (n d : ℕ) (x : Float) (u g : ℕ) → 0 < d → 0 < u → num x * u ≡ g * den x → n * den x ≤ num x * d → n * u ≤ g * d
+under-units n d x u g D U e l = transfer n g d u n (num x) d (den x) D (den-pos x) refl (sym e) l
 
-mixed-least : (a b n u x d : ℕ) → Mixed (2 ^ 53) a b n → x * u ≤ a * d → x * 2 ^ 21 ≤ 1 * d → 1 * u ≤ b * 2 ^ 20 → a * 1 ≤ 2 ^ 27 * u → x * u ≤ n * d
-mixed-least a b n u x d m A L B C = elim m [ inl h ↦ leq-trans A (mul-le-mul-right d (h .1)) | inr h ↦ go (low-units a b n u (h .2) B C) ]
+half-units : (a b n u : ℕ) → b * 2 ^ 53 ≤ n * 2 ^ 53 + (a - b) → 1 * u ≤ b * 2 ^ 25 → a * 1 ≤ 2 ^ 27 * u → b ≤ n * 2
+half-units a b n u h k l = omega arith
+
+mixed-least : (a b n u x d : ℕ) → Mixed (2 ^ 53) a b n → x * u ≤ a * d → x * 2 * u ≤ b * d → 1 * u ≤ b * 2 ^ 25 → a * 1 ≤ 2 ^ 27 * u → x * u ≤ n * d
+mixed-least a b n u x d m A L B C = elim m [ inl h ↦ leq-trans A (mul-le-mul-right d (h .1)) | inr h ↦ go (half-units a b n u (h .2) B C) ]
   where
-    go : u ≤ n * 2 ^ 21 → x * u ≤ n * d
-    go k = leq-trans (mul-le-mul-left x k) (leq-trans (le-of-eq (mul-left-comm x n (2 ^ 21))) (mul-le-mul-left n (leq-trans L (le-of-eq (one-mul d)))))
+    go : b ≤ n * 2 → x * u ≤ n * d
+    go k =
+        le-of-mul-le-mul-right
+        (leq-trans (le-of-eq (mul-right-comm x u 2)) (leq-trans L (leq-trans (mul-le-mul-right d k) (le-of-eq (mul-right-comm n 2 d)))))
+        (zero-lt-suc 1)
 
--- from 2 ^ -20 on for b, and 2 ^ 27 at most for both: the mix is no less than a, or than 2 ^ -21
-pub lerp-above : (a b t lo : Float) → T (fits binary64 a) → T (fits binary64 b) → T (fits binary64 lo) → Between zeroF lo (fin false 1 (negsuc 20)) → Between lo a (fin false 1 (pos 27)) → Between (fin false 1 (negsuc 19)) b (fin false 1 (pos 27)) → InUnit t → Between lo (lerpOf a b t) (fin false 1 (pos 27))
-lerp-above a b t lo F G L j h k l =
+-- from 2 ^ -25 on for b, and 2 ^ 27 at most for both: the mix is no less than a, or than half of b
+pub lerp-above : (a b t lo : Float) → T (fits binary64 a) → T (fits binary64 b) → T (fits binary64 lo) → T (le zeroF lo) → Between lo a (fin false 1 (pos 27)) → Between (fin false 1 (negsuc 24)) b (fin false 1 (pos 27)) → num lo * 2 * den b ≤ num b * den lo → InUnit t → Between lo (lerpOf a b t) (fin false 1 (pos 27))
+lerp-above a b t lo F G L j h k i l =
     let c : Float = fin false 1 (pos 27) in
-    let b₀ : Float = fin false 1 (negsuc 19) in
+    let b₀ : Float = fin false 1 (negsuc 24) in
     let u = 2 ^ low binary64 in
     let U : 0 < u = pow-pos (low binary64) in
-    let h₀ : Between zeroF a c = record { least = le-trans zeroF lo a (j .least) (h .least); most = h .most } in
+    let h₀ : Between zeroF a c = record { least = le-trans zeroF lo a j (h .least); most = h .most } in
     let k₀ : Between zeroF b c = record { least = le-trans zeroF b₀ b (unfold le in tt) (k .least); most = k .most } in
     let p = held-is binary64 false a F (on-of-between a c h₀ tt) in
     let q = held-is binary64 false b G (on-of-between b c k₀ tt) in
     let A = grid binary64 (num a) (den a) in
     let B = grid binary64 (num b) (den b) in
     let m = mixed binary64 a b t A B F G p q l in
+    let lo-a : Between zeroF lo a = record { least = j; most = h .least } in
+    let a-finite : T (finite a) = between-finite zeroF a c tt tt h₀ in
     record {
       least =
-          rounds-mono binary64 lo (lerpOf a b t) (num lo) (den lo) (m .0) u (den-pos lo) U (held-rounds binary64 lo L (on-of-between lo (fin false 1 (negsuc 20)) j tt)) (m .1)
+          rounds-mono binary64 lo (lerpOf a b t) (num lo) (den lo) (m .0) u (den-pos lo) U (held-rounds binary64 lo L (on-of-between lo a lo-a a-finite)) (m .1)
           (mixed-least A B (m .0) u (num lo) (den lo) (m .2)
-          (under-units lo a u A U (p .1) (size-of-between lo a (record { least = j .least; most = h .least }) (between-finite zeroF a c tt tt h₀)))
-          (size-of-between lo (fin false 1 (negsuc 20)) j tt)
-          (under-units b₀ b u B U (q .1) (size-of-between b₀ b (record { least = unfold le in tt; most = k .least }) (between-finite zeroF b c tt tt k₀)))
+          (under-units (num lo) (den lo) a u A (den-pos lo) U (p .1) (size-of-between lo a lo-a a-finite))
+          (under-units (num lo * 2) (den lo) b u B (den-pos lo) U (q .1) i)
+          (under-units 1 (2 ^ 25) b u B (pow-pos 25) U (q .1) (size-of-between b₀ b (record { least = unfold le in tt; most = k .least }) (between-finite zeroF b c tt tt k₀)))
           (bound-units a c u A U (p .1) (size-of-between a c h₀ tt)));
       most = lerp-range a b t c F G tt steady-27 h₀ k₀ l .most;
     }
@@ -394,19 +399,34 @@ lerp-above a b t lo F G L j h k l =
 abbrev lo : Float
 lo = fin false 1 (negsuc 20)
 
+abbrev smallest : Float
+smallest = fin false 1 (negsuc 19)
+
 pub lerp-positive : (a b t : Float) → T (fits binary64 a) → T (fits binary64 b) → lt zeroF a ≡ true → T (le a (fin false 1 (pos 27))) → Between (fin false 1 (negsuc 19)) b (fin false 1 (pos 27)) → InUnit t → lt zeroF (lerpOf a b t) ≡ true
 lerp-positive a b t F G h i k l = go (lt lo a) (le-of-lt lo a) (le-of-not-lt lo a (unfold isNan in refl) (between-is zeroF a (fin false 1 (pos 27)) (record { least = A; most = i })))
   where
     A : T (le zeroF a)
     A = le-of-lt zeroF a h
 
+    k₀ : Between (fin false 1 (negsuc 24)) b (fin false 1 (pos 27))
+    k₀ = record { least = le-trans (fin false 1 (negsuc 24)) smallest b (unfold le in tt) (k .least); most = k .most }
+
+    -- what is 2 ^ -21 at most is at most half of b
+    twice : (n d : ℕ) → n * 2 ^ 21 ≤ 1 * d → n * 2 * den b ≤ num b * d
+    twice n d h =
+        let l : 1 * den b ≤ num b * 2 ^ 20 = size-of-between smallest b (record { least = unfold le in tt; most = k .least }) (between-finite smallest b (fin false 1 (pos 27)) tt tt k) in
+        let x : n * 2 * den b ≤ n * 2 * (num b * 2 ^ 20) = mul-le-mul-left (n * 2) (leq-trans (le-of-eq (sym (one-mul (den b)))) l) in
+        let y : num b * (n * 2 ^ 21) ≤ num b * (1 * d) = mul-le-mul-left (num b) h in
+        let z : n * 2 * (num b * 2 ^ 20) ≡ num b * (n * 2 ^ 21) = mul-mul-mul-comm n 2 (num b) (2 ^ 20) ∙ ap (λ (w : ℕ). w * 2 ^ 21) (mul-comm n (num b)) ∙ mul-assoc (num b) n (2 ^ 21) in
+        leq-trans x (leq-trans (le-of-eq z) (leq-trans y (le-of-eq (ap (λ (w : ℕ). num b * w) (one-mul d)))))
+
     go : (y : Bool) → (y ≡ true → T (le lo a)) → (y ≡ false → T (le a lo)) → lt zeroF (lerpOf a b t) ≡ true
     go true p q =
         lt-of-lt-of-le zeroF lo (lerpOf a b t) (unfold lt in refl)
-        (lerp-above a b t lo F G (unfold fits in tt) (record { least = unfold le in tt; most = unfold le in tt }) (record { least = p refl; most = i }) k l .least)
+        (lerp-above a b t lo F G (unfold fits in tt) (unfold le in tt) (record { least = p refl; most = i }) k₀ (twice 1 (2 ^ 21) (le-refl (2 ^ 21))) l .least)
     go false p q =
         lt-of-lt-of-le zeroF a (lerpOf a b t) h
-        (lerp-above a b t a F G F (record { least = A; most = q refl }) (record { least = le-same a (between-is zeroF a lo (record { least = A; most = q refl })); most = i }) k l .least)
+        (lerp-above a b t a F G F A (record { least = le-same a (between-is zeroF a lo (record { least = A; most = q refl })); most = i }) k₀ (twice (num a) (den a) (size-of-between a lo (record { least = A; most = q refl }) tt)) l .least)
 
 -- ---- the reciprocal: 1 / x is at most 1 / lo, for x from lo on, an infinite x too
 

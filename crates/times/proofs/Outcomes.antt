@@ -99,7 +99,7 @@ same-speed (speeded.Is i) (speeded.Refused n) e = cc
 same-speed (speeded.Refused m) (speeded.Is j) e = cc
 same-speed (speeded.Refused m) (speeded.Refused n) e = cc
 
-same-time : (x y : Timed) → toldTime x ≡ toldTime y → x ≡ y
+pub same-time : (x y : Timed) → toldTime x ≡ toldTime y → x ≡ y
 same-time (timed.At i) (timed.At j) e = cc
 same-time (timed.At i) (timed.Refused n) e = cc
 same-time (timed.Refused m) (timed.At j) e = cc

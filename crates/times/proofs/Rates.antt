@@ -1,19 +1,20 @@
--- The speeds that a running clock can have, `Running`: an accepted speed is one, and so is a mix of one with an accepted speed, where its reading in that one's unit is not refused.
+-- The speeds that a running clock can have, `Running`: an accepted speed is one, and so is a mix of one with an accepted or a mapped speed, where its reading in that one's unit is not refused.
 -- The ticks per second of each are finite and not negative (`rate`). Assumes nothing.
 use mathlib.Core.Path.{_≡_, refl, sym, _∙_, subst}
 use mathlib.Core.Logic.{_⊎_, inl, inr}
-use Prim.Native.Nat.{_*_}
+use Prim.Native.Nat.{_*_, _≤_}
 use native.Mathlib.Nat.{le-of-eq, zero-mul, mul-one}
+use native.Mathlib.Omega.{arith}
 use mathlib.Core.Bool.{Bool, true, false, not, _||_, true≢false}
 use lib.IntN.{pos, negsuc}
 use lib.Dec.{T, eqb, eqb→eq}
 use lib.Ieee.{Float, nan, inf, fin, binary64, up, down, div, lt, le, eq, fits, isNan}
 use lib.Ieee.Fits.{up-pos, and-l, and-r, add-fits, mul-fits, div-fits}
 use lib.Ieee.Scale.{finite}
-use lib.Ieee.Positive.{between}
+use lib.Ieee.Positive.{num, den, den-pos, between, through}
 use borrow.Author.Tests.{not-false}
 use Rattle.doubles.specs.Doubles.{zeroF, oneF, finiteOf}
-use Rattle.doubles.proofs.Unit.{none, Between, InUnit, le-trans, le-same, le-of-not-lt, lt-not-le, between-finite, between-wider, between-of-upto, finite-is, on-of-between, mul-mono}
+use Rattle.doubles.proofs.Unit.{none, Between, InUnit, le-trans, le-same, le-of-not-lt, between-finite, between-wider, between-of-upto, finite-is, on-of-between, size-of-between, mul-mono}
 use Rattle.doubles.proofs.Ranges.{lerp-range, lerp-above, steady-27}
 use Rattle.doubles.proofs.Quotients.{div-mono, divisor-positive}
 use Rattle.times.specs.Speeds.{sixtyF, sptOf, tpsOf, tpmOf, readInOf, interpolateOf, interpolateSpeedOf, inRange, badSpeed, badReading}
@@ -34,17 +35,31 @@ largest = fin false 1 (pos 27)
 abbrev pub Runs : Float → Float → Type 0
 Runs lo x = T (fits binary64 x) × Between lo x (fin false 1 (pos 27))
 
--- seconds per tick from 2 ^ -27 on, ticks per second or per minute from zero on (-0.0 too)
+-- seconds per tick from lo on, ticks per second or per minute from zero on (-0.0 too)
+abbrev pub Above : Float → ClockSpeed → Type 0
+Above lo (SecondsPerTick x) = Runs lo x
+Above lo (TicksPerSecond x) = Runs zeroF x
+Above lo (TicksPerMinute x) = Runs zeroF x
+
+-- from 2 ^ -27 on
 abbrev pub Running : ClockSpeed → Type 0
-Running (SecondsPerTick x) = Runs (fin false 1 (negsuc 26)) x
-Running (TicksPerSecond x) = Runs zeroF x
-Running (TicksPerMinute x) = Runs zeroF x
+Running s = Above (fin false 1 (negsuc 26)) s
+
+-- from 2 ^ -21 on: the speeds that a tween may go towards
+abbrev pub Reachable : ClockSpeed → Type 0
+Reachable s = Above (fin false 1 (negsuc 20)) s
 
 -- a speed's number
 abbrev pub numberOf : ClockSpeed → Float
 numberOf (SecondsPerTick x) = x
 numberOf (TicksPerSecond x) = x
 numberOf (TicksPerMinute x) = x
+
+-- x in a speed's unit
+abbrev pub like : ClockSpeed → Float → ClockSpeed
+like (SecondsPerTick y) x = SecondsPerTick x
+like (TicksPerSecond y) x = TicksPerSecond x
+like (TicksPerMinute y) x = TicksPerMinute x
 
 -- ---- tests
 
@@ -82,10 +97,18 @@ from-zero x h =
       | inr r ↦ between-wider zeroF smallest x largest largest (unfold le in tt) (unfold le in tt) (in-range x r)
     ]
 
+pub accepted-above : (s : ClockSpeed) → T (fits binary64 (numberOf s)) → badSpeed s ≡ false → Above (fin false 1 (negsuc 19)) s
+accepted-above (SecondsPerTick x) F h = (F, in-range x (so (inRange x) (not-false (inRange x) h)))
+accepted-above (TicksPerSecond x) F h = (F, from-zero x (so (eq x zeroF || inRange x) (not-false (eq x zeroF || inRange x) h)))
+accepted-above (TicksPerMinute x) F h = (F, from-zero x (so (eq x zeroF || inRange x) (not-false (eq x zeroF || inRange x) h)))
+
+pub above-wider : (lo′ lo : Float) (s : ClockSpeed) → T (le lo′ lo) → Above lo s → Above lo′ s
+above-wider lo′ lo (SecondsPerTick x) h r = (r .0, between-wider lo′ lo x largest largest h (unfold le in tt) (r .1))
+above-wider lo′ lo (TicksPerSecond x) h r = r
+above-wider lo′ lo (TicksPerMinute x) h r = r
+
 pub accepted-running : (s : ClockSpeed) → T (fits binary64 (numberOf s)) → badSpeed s ≡ false → Running s
-accepted-running (SecondsPerTick x) F h = (F, between-wider shortest smallest x largest largest (unfold le in tt) (unfold le in tt) (in-range x (so (inRange x) (not-false (inRange x) h))))
-accepted-running (TicksPerSecond x) F h = (F, from-zero x (so (eq x zeroF || inRange x) (not-false (eq x zeroF || inRange x) h)))
-accepted-running (TicksPerMinute x) F h = (F, from-zero x (so (eq x zeroF || inRange x) (not-false (eq x zeroF || inRange x) h)))
+accepted-running s F h = above-wider shortest smallest s (unfold le in tt) (accepted-above s F h)
 
 -- ---- the readings of a running speed
 
@@ -143,37 +166,50 @@ read x h =
     go (inf s) t = absurd t
     go (fin s m e) t = tt
 
--- a running speed's own number is not refused
-own : (lo x : Float) → T (finite lo) → Runs lo x → (not (finiteOf x) || lt largest x) ≡ false
-own lo nan F r = absurd (between-finite lo nan largest F tt (r .1))
-own lo (inf s) F r = absurd (between-finite lo (inf s) largest F tt (r .1))
-own lo (fin s m e) F r = go (lt largest (fin s m e)) refl
-  where
-    go : (b : Bool) → lt largest (fin s m e) ≡ b → b ≡ false
-    go true h = absurd (lt-not-le largest (fin s m e) h (r .1 .most))
-    go false h = refl
-
-pub own-reading : (a b : ClockSpeed) → Running a → readInOf a b ≡ numberOf a → badReading a b ≡ false
-own-reading a b r e = rw e (go a r)
-  where
-    go : (a : ClockSpeed) → Running a → (not (finiteOf (numberOf a)) || lt largest (numberOf a)) ≡ false
-    go (SecondsPerTick x) r = own shortest x tt r
-    go (TicksPerSecond x) r = own zeroF x tt r
-    go (TicksPerMinute x) r = own zeroF x tt r
+-- a running speed runs in each unit that it can be read in
+pub reading-running : (a b : ClockSpeed) → Running a → badReading a b ≡ false → Running (like b (readInOf a b))
+reading-running a (SecondsPerTick y) r h = let l = read (sptOf a) h in (spt-fits a r, record { least = spt-least a r (l .0); most = l .1 })
+reading-running a (TicksPerSecond y) r h = (tps-fits a r, rate-range a r)
+reading-running a (TicksPerMinute y) r h = (tpm-fits a r, record { least = tpm-least a r; most = read (tpmOf a) h .1 })
 
 -- ---- mixes
 
--- a mix of a reading and an accepted number, both from zero up
-mixed : (x y t : Float) → T (fits binary64 x) → T (fits binary64 y) → Between zeroF x largest → Between zeroF y largest → InUnit t → Runs zeroF (interpolateOf x y t)
-mixed x y t F G h k u = (add-fits binary64 x _, lerp-range x y t largest F G tt steady-27 h k u)
-
-pub interpolated-running : (a b : ClockSpeed) (t : Float) → Running a → T (fits binary64 (numberOf b)) → badSpeed b ≡ false → badReading a b ≡ false → InUnit t → Running (interpolateSpeedOf a b t)
+-- a mix answers in the target's unit
+pub mix-is : (a b : ClockSpeed) (t : Float) → interpolateSpeedOf a b t ≡ like b (interpolateOf (readInOf a b) (numberOf b) t)
 unfolding interpolateSpeedOf
-interpolated-running a (SecondsPerTick y) t r F h k u =
-    let x = sptOf a in
-    let l = read x k in (
-      add-fits binary64 x _,
-      lerp-above x y t shortest (spt-fits a r) F (unfold fits in tt) (record { least = unfold le in tt; most = unfold le in tt }) (record { least = spt-least a r (l .0); most = l .1 }) (in-range y (so (inRange y) (not-false (inRange y) h))) u,
-    )
-interpolated-running a (TicksPerSecond y) t r F h k u = mixed (tpsOf a) y t (tps-fits a r) F (rate-range a r) (accepted-running (TicksPerSecond y) F h .1) u
-interpolated-running a (TicksPerMinute y) t r F h k u = mixed (tpmOf a) y t (tpm-fits a r) F (record { least = tpm-least a r; most = read (tpmOf a) k .1 }) (accepted-running (TicksPerMinute y) F h .1) u
+mix-is a (SecondsPerTick y) t = refl
+mix-is a (TicksPerSecond y) t = refl
+mix-is a (TicksPerMinute y) t = refl
+
+-- from lo on towards what is 2 lo at least, and 2 ^ -25
+module _ (lo hi : Float) (L : T (fits binary64 lo)) (Z : T (le zeroF lo)) (H : Between (fin false 1 (negsuc 24)) hi largest) (half : num lo * 2 * den hi ≤ num hi * den lo) where
+  slow : (x y t : Float) → Runs lo x → Runs hi y → InUnit t → Runs lo (interpolateOf x y t)
+  slow x y t r h u =
+      let y-finite : T (finite y) = between-finite hi y largest (between-finite (fin false 1 (negsuc 24)) hi largest tt tt H) tt (h .1) in
+      let hi-y : Between zeroF hi y = record { least = le-trans zeroF (fin false 1 (negsuc 24)) hi (unfold le in tt) (H .least); most = h .1 .least } in (
+        add-fits binary64 x _,
+        lerp-above x y t lo (r .0) (h .0) L Z (r .1) (between-wider (fin false 1 (negsuc 24)) hi y largest largest (H .least) (unfold le in tt) (h .1))
+            (through (num lo * 2) (num hi) (num y) (den lo) (den hi) (den y) (den-pos hi) half (size-of-between hi y hi-y y-finite))
+            u,
+      )
+
+  fast : (x y t : Float) → Runs zeroF x → Runs zeroF y → InUnit t → Runs zeroF (interpolateOf x y t)
+  fast x y t r h u = (add-fits binary64 x _, lerp-range x y t largest (r .0) (h .0) tt steady-27 (r .1) (h .1) u)
+
+  pub interpolated-above : (a b : ClockSpeed) (t : Float) → Above lo (like b (readInOf a b)) → Above hi b → InUnit t → Above lo (interpolateSpeedOf a b t)
+  interpolated-above a b t r h u = subst (Above lo) (sym (mix-is a b t)) (go b (readInOf a b) r h)
+    where
+      go : (b : ClockSpeed) (x : Float) → Above lo (like b x) → Above hi b → Above lo (like b (interpolateOf x (numberOf b) t))
+      go (SecondsPerTick y) x r h = slow x y t r h u
+      go (TicksPerSecond y) x r h = fast x y t r h u
+      go (TicksPerMinute y) x r h = fast x y t r h u
+
+-- so for a running speed that is read in the unit of a reachable one, and for two accepted ones of one unit
+pub interpolated-running : (a b : ClockSpeed) (t : Float) → Running a → Reachable b → badReading a b ≡ false → InUnit t → Running (interpolateSpeedOf a b t)
+interpolated-running a b t r h k u = interpolated-above shortest (fin false 1 (negsuc 20)) (unfold fits in tt) (unfold le in tt) (record { least = unfold le in tt; most = unfold le in tt }) (omega arith) a b t (reading-running a b r k) h u
+
+pub interpolated-reachable : (a b : ClockSpeed) (t : Float) → like b (readInOf a b) ≡ a → Above (fin false 1 (negsuc 19)) a → Above (fin false 1 (negsuc 19)) b → InUnit t → Reachable (interpolateSpeedOf a b t)
+interpolated-reachable a b t e r h u =
+    interpolated-above (fin false 1 (negsuc 20)) smallest (unfold fits in tt) (unfold le in tt) (record { least = unfold le in tt; most = unfold le in tt }) (omega arith) a b t
+    (subst Reachable (sym e) (above-wider (fin false 1 (negsuc 20)) smallest a (unfold le in tt) r))
+    h u

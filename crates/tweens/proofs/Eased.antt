@@ -1,9 +1,9 @@
 -- An eased amount of 0..1 stays in 0..1, whatever the easing and the power: rounding is monotone, and 0 and 1 are doubles.
--- So the amount of a mapping that is not refused lies in 0..1, and the speed that it gives is one of a running clock (`mapped-running`). Assumes nothing.
+-- So the amount of a mapping that is not refused lies in 0..1, and the speed that it gives is one that a tween may go towards (`mapped-reachable`), so one of a running clock. Assumes nothing.
 use Prim.Native.Nat.{ℕ}
 use mathlib.Core.Path.{_≡_, refl, ap}
 use mathlib.Core.Bool.{Bool, true, false, not, _||_, true≢false, false≢true}
-use lib.IntN.{pos}
+use lib.IntN.{pos, negsuc}
 use lib.Dec.{T, eqb}
 use lib.Ieee.{Float, nan, inf, fin, binary64, isNan, sub, mul, div, lt, le, eq, fits}
 use lib.Ieee.Scale.{finite}
@@ -16,7 +16,7 @@ use Rattle.times.specs.Speeds.{readInOf, badSpeed}
 use Rattle.times.specs.declared.judge.Faults.{Faults}
 use Rattle.times.specs.declared.clock_speed.ClockSpeed.{ClockSpeed}
 use Rattle.times.specs.declared.clock_speed.ClockSpeed.the-variants.{SecondsPerTick, TicksPerSecond, TicksPerMinute}
-use Rattle.times.proofs.Rates.{Running, numberOf, neither, accepted-running, interpolated-running, own-reading}
+use Rattle.times.proofs.Rates.{Running, Reachable, numberOf, like, neither, accepted-above, above-wider, interpolated-reachable}
 use Rattle.tweens.specs.Easings.{powerOf, inOutAt, inOutOf, applyOf}
 use Rattle.tweens.specs.Values.{amountOf, mapSpeedOf, unitOf, speedMapFaults}
 use Rattle.tweens.specs.declared.value.SpeedMapping.{SpeedMapping}
@@ -66,7 +66,8 @@ accepted-amount-unit lo hi e x F G X l h d =
 
 -- ---- speeds
 
-same-unit : (a b : ClockSpeed) → eqb (unitOf a) (unitOf b) ≡ true → readInOf a b ≡ numberOf a
+-- a speed in the unit of another that has the same is itself
+same-unit : (a b : ClockSpeed) → eqb (unitOf a) (unitOf b) ≡ true → like b (readInOf a b) ≡ a
 same-unit (SecondsPerTick x) (SecondsPerTick y) e = refl
 same-unit (SecondsPerTick x) (TicksPerSecond y) e = absurd (false≢true e)
 same-unit (SecondsPerTick x) (TicksPerMinute y) e = absurd (false≢true e)
@@ -77,17 +78,21 @@ same-unit (TicksPerMinute x) (SecondsPerTick y) e = absurd (false≢true e)
 same-unit (TicksPerMinute x) (TicksPerSecond y) e = absurd (false≢true e)
 same-unit (TicksPerMinute x) (TicksPerMinute y) e = refl
 
--- a mapping to speeds that is not refused gives a speed of a running clock
-pub mapped-running : (m : SpeedMapping) (x : Float) → T (fits binary64 (m .«in_lo»)) → T (fits binary64 (m .«in_hi»)) → T (fits binary64 (numberOf (m .«out_lo»))) → T (fits binary64 (numberOf (m .«out_hi»))) → T (finite x) → speedMapFaults m ≡ noFaults → Running (mapSpeedOf m x)
-unfolding mapSpeedOf
-mapped-running m x F G P Q X e =
-    let lo = m .«in_lo» in
-    let hi = m .«in_hi» in
-    let a = m .«out_lo» in
-    let b = m .«out_hi» in
-    let f = neither (badFloat lo) (badFloat hi) (neither (badFloat lo || badFloat hi) false (ap (λ (r : Faults). r .float) e) .0) in
-    let d : eq lo hi ≡ false = neither (eq lo hi) false (neither (eq lo hi || false) false (neither (eq lo hi || false || false) false (ap (λ (r : Faults). r .map) e) .0) .0) .0 in
-    let s = neither (badSpeed a || badSpeed b) (not (eqb (unitOf a) (unitOf b))) (ap (λ (r : Faults). r .speed) e) in
-    let o = neither (badSpeed a) (badSpeed b) (s .0) in
-    let r = accepted-running a P (o .0) in
-    interpolated-running a b (amountOf lo hi (m .easing) x) r Q (o .1) (own-reading a b r (same-unit a b (not-false (eqb (unitOf a) (unitOf b)) (s .1)))) (accepted-amount-unit lo hi (m .easing) x F G X (f .0) (f .1) d)
+-- a mapping to speeds that is not refused gives a speed that a tween may go towards, so one of a running clock
+module _ (m : SpeedMapping) (x : Float) (F : T (fits binary64 (m .«in_lo»))) (G : T (fits binary64 (m .«in_hi»))) (P : T (fits binary64 (numberOf (m .«out_lo»)))) (Q : T (fits binary64 (numberOf (m .«out_hi»)))) (X : T (finite x)) (e : speedMapFaults m ≡ noFaults) where
+  pub mapped-reachable : Reachable (mapSpeedOf m x)
+  unfolding mapSpeedOf
+  mapped-reachable =
+      let lo = m .«in_lo» in
+      let hi = m .«in_hi» in
+      let a = m .«out_lo» in
+      let b = m .«out_hi» in
+      let f = neither (badFloat lo) (badFloat hi) (neither (badFloat lo || badFloat hi) false (ap (λ (r : Faults). r .float) e) .0) in
+      let d : eq lo hi ≡ false = neither (eq lo hi) false (neither (eq lo hi || false) false (neither (eq lo hi || false || false) false (ap (λ (r : Faults). r .map) e) .0) .0) .0 in
+      let s = neither (badSpeed a || badSpeed b) (not (eqb (unitOf a) (unitOf b))) (ap (λ (r : Faults). r .speed) e) in
+      let o = neither (badSpeed a) (badSpeed b) (s .0) in
+      interpolated-reachable a b (amountOf lo hi (m .easing) x) (same-unit a b (not-false (eqb (unitOf a) (unitOf b)) (s .1))) (accepted-above a P (o .0)) (accepted-above b Q (o .1))
+      (accepted-amount-unit lo hi (m .easing) x F G X (f .0) (f .1) d)
+
+  pub mapped-running : Running (mapSpeedOf m x)
+  mapped-running = above-wider (fin false 1 (negsuc 26)) (fin false 1 (negsuc 20)) (mapSpeedOf m x) (unfold le in tt) mapped-reachable

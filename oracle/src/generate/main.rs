@@ -10,6 +10,7 @@ mod limits;
 mod nanos;
 mod powers;
 mod random;
+mod shift;
 mod station;
 mod times;
 
@@ -22,7 +23,7 @@ use std::{
 use random::Random;
 
 const USAGE: &str = "usage: generate FAMILY SEED COUNT [--powers MOST]
-FAMILY is floats, times, nanos, powers or station. Powers that are accepted go to MOST, 1 to 16, or to 16.";
+FAMILY is floats, times, nanos, powers, station or shift. Powers that are accepted go to MOST, 1 to 16, or to 16.";
 
 /// One in this many lines is damaged, about 3 in 100.
 const DAMAGED: u64 = 33;
@@ -68,6 +69,7 @@ fn read_arguments(words: &[String]) -> Option<(Family, u64, u64)> {
         "nanos" => nanos::family(),
         "powers" => powers::family(),
         "station" => station::family(powers),
+        "shift" => shift::family(powers),
         _ => return None,
     };
     Some((family, seed.parse().ok()?, count.parse().ok()?))

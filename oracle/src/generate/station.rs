@@ -23,7 +23,7 @@ const SETUP: [&str; 14] = [
 ];
 
 /// The limits of tables and frames, and document 01's worked rows. Each begins a fresh station.
-const ROWS: [&str; 41] = [
+const ROWS: [&str; 58] = [
     "new",
     "clock.add fix tps 0000000000000000",
     "clock.start 0:1",
@@ -65,6 +65,23 @@ const ROWS: [&str; 41] = [
     "mod.gen 16:0",
     "clock.add fix tpm 8000000000000000",
     "clock.report 0:1 95",
+    "new",
+    "clock.add fix tps 3ff0000000000000",
+    "clock.add fix tps 4130000000000000",
+    "clock.start 0:1",
+    "clock.start 1:1",
+    "clock.preset 0:1 18446744073709551615 0000000000000000",
+    "frame 3ff0000000000000",
+    "clock.time 1:1",
+    "new",
+    "clock.add fix tps 4130000000000000",
+    "clock.add fix tps 3ff0000000000000",
+    "clock.start 0:1",
+    "clock.start 1:1",
+    "clock.preset 1:1 18446744073709551615 0000000000000000",
+    "frame 3ff0000000000000",
+    "clock.time 0:1",
+    "clock.time 1:1",
 ];
 
 /// How often each form is taken, beside the others.

@@ -11,6 +11,9 @@ Inv-loop line₀ portion₀ held₀ turns₀ line portion held turns = (length l
 abbrev μ-loop : tie.MeasureT-loop
 μ-loop line₀ portion₀ held₀ turns₀ line portion held turns = turns
 
+new-requires : tie.Need-new-requires Inv-loop μ-loop
+new-requires c κs = search needs
+
 loop-holds : tie.Need-loop-holds Inv-loop μ-loop
 loop-holds c = search needs
 
@@ -50,6 +53,7 @@ all-spec =
     (tie.spec
     Inv-loop
     μ-loop
+    new-requires
     loop-holds
     turn-requires
     sub-turns

@@ -1,4 +1,4 @@
--- `bench::feed` is safe and ends: the line's buffer keeps its length, and each turn leaves a byte fewer of the portion. Assumes nothing.
+-- `bench::feed` is safe and ends: the line's buffer keeps its length, and each turn leaves fewer bytes of the portion, since `gather` goes forward. Assumes nothing.
 use borrow.Author.Needs.{needs}
 use Prim.Native.Nat.{_-_}
 use mathlib.Core.Path.{_≡_}
@@ -7,19 +7,16 @@ use Rattle.bench.proofs.feed.Statement.{statement}
 use Rattle.bench.proofs.feed.Tie as tie
 
 abbrev Inv-loop : tie.InvT-loop
-Inv-loop line₀ held portion count₀ i₀ line count i = length line ≡ length line₀
+Inv-loop line₀ held portion count₀ state₀ at₀ line count state at = length line ≡ length line₀
 
 abbrev μ-loop : tie.MeasureT-loop
-μ-loop line₀ held portion count₀ i₀ line count i = length portion - i
+μ-loop line₀ held portion count₀ state₀ at₀ line count state at = length portion - at
 
 loop-holds : tie.Need-loop-holds Inv-loop μ-loop
 loop-holds c = search needs
 
-shared-slice-read-take : tie.Need-shared-slice-read-take Inv-loop μ-loop
-shared-slice-read-take c = search needs
-
-take-requires : tie.Need-take-requires Inv-loop μ-loop
-take-requires c κs = search needs
+gather-requires : tie.Need-gather-requires Inv-loop μ-loop
+gather-requires c κs = search needs
 
 same-length : tie.Need-same-length Inv-loop μ-loop
 same-length c = search needs
@@ -27,8 +24,23 @@ same-length c = search needs
 returns : tie.Need-returns Inv-loop μ-loop
 returns c = search needs
 
-add-i : tie.Need-add-i Inv-loop μ-loop
-add-i c = search needs
+heard-requires : tie.Need-heard-requires Inv-loop μ-loop
+heard-requires c κs = search needs
+
+enum-known-written : tie.Need-enum-known-written Inv-loop μ-loop
+enum-known-written c = search needs
+
+enum-known-ask : tie.Need-enum-known-ask Inv-loop μ-loop
+enum-known-ask c = search needs
+
+asked-requires : tie.Need-asked-requires Inv-loop μ-loop
+asked-requires c κs = search needs
+
+same-length-2 : tie.Need-same-length-2 Inv-loop μ-loop
+same-length-2 c = search needs
+
+returns-2 : tie.Need-returns-2 Inv-loop μ-loop
+returns-2 c = search needs
 
 loop-less : tie.Need-loop-less Inv-loop μ-loop
 loop-less c = search needs
@@ -36,11 +48,11 @@ loop-less c = search needs
 loop-again : tie.Need-loop-again Inv-loop μ-loop
 loop-again c = search needs
 
-same-length-2 : tie.Need-same-length-2 Inv-loop μ-loop
-same-length-2 c = search needs
+same-length-3 : tie.Need-same-length-3 Inv-loop μ-loop
+same-length-3 c = search needs
 
-returns-2 : tie.Need-returns-2 Inv-loop μ-loop
-returns-2 c = search needs
+returns-3 : tie.Need-returns-3 Inv-loop μ-loop
+returns-3 c = search needs
 
 pub feed-spec : {M : Type 1} → statement M
 feed-spec =
@@ -49,12 +61,16 @@ feed-spec =
     Inv-loop
     μ-loop
     loop-holds
-    shared-slice-read-take
-    take-requires
+    gather-requires
     same-length
     returns
-    add-i
+    heard-requires
+    enum-known-written
+    enum-known-ask
+    asked-requires
+    same-length-2
+    returns-2
     loop-less
     loop-again
-    same-length-2
-    returns-2)
+    same-length-3
+    returns-3)

@@ -1,0 +1,2 @@
+pub mod ClockTables
+pub mod OneClock

@@ -1,0 +1,2 @@
+pub mod ClockCommands
+pub mod ModulatorCommands

@@ -1,0 +1,41 @@
+-- The calls on the modulators as values: what each command answers, and what it leaves. Each is the call of its name. Assumes nothing.
+use mathlib.Core.Bool.{cond}
+use lib.Dec.{eqb}
+use lib.Ieee.{Float}
+use Rattle.times.specs.Answer.{Answer, accepted, refused}
+use Rattle.modulators.specs.ModulatorTables.{addTweenerOf, addLfoOf, removeOf, setTweenerAt, setParameterOf, setWaveformOf, setPhaseOf, modulatorValueOf}
+use Rattle.modulators.specs.declared.Modulators.{Modulators}
+use Rattle.modulators.specs.declared.ModulatorDone.{ModulatorDone}
+use Rattle.modulators.specs.declared.ModulatorAdded.{ModulatorAdded}
+use Rattle.modulators.specs.declared.ModulatorNamed.{ModulatorNamed}
+use Rattle.modulators.specs.declared.ModulatorNamed.the-variants as named
+use Rattle.commands.specs.declared.modulator_command.ModulatorCommand.{ModulatorCommand}
+use Rattle.commands.specs.declared.modulator_command.ModulatorCommand.the-variants as command
+use Rattle.commands.specs.declared.modulator_command.ModulatorAnswer.{ModulatorAnswer}
+use Rattle.commands.specs.declared.modulator_command.ModulatorAnswer.the-variants as answer
+use Rattle.commands.specs.declared.modulator_command.ModulatorRan.{ModulatorRan}
+
+abbrev pub namedAs : ModulatorNamed → ModulatorAnswer
+namedAs (named.Is id) = answer.Id id
+namedAs (named.Refused n) = answer.Refused n
+
+abbrev pub addedAs : ModulatorAdded → ModulatorRan
+addedAs r = record { answer = namedAs (r .answer); table = r .table }
+
+-- 0 is OK
+abbrev pub doneAs : ModulatorDone → ModulatorRan
+doneAs r = record { answer = cond (eqb (r .refused) 0) answer.Done (answer.Refused (r .refused)); table = r .table }
+
+abbrev pub valueAs : Answer Float → ModulatorAnswer
+valueAs (accepted x) = answer.Value x
+valueAs (refused n) = answer.Refused n
+
+unfoldable pub runModulatorOf : Modulators → ModulatorCommand → ModulatorRan
+runModulatorOf t (command.AddTweener x) = addedAs (addTweenerOf t x)
+runModulatorOf t (command.AddLfo b) = addedAs (addLfoOf t b)
+runModulatorOf t (command.Remove id) = doneAs (removeOf t id)
+runModulatorOf t (command.SetTweener id x w) = doneAs (setTweenerAt t id x w)
+runModulatorOf t (command.SetParameter id k v w) = doneAs (setParameterOf t id k v w)
+runModulatorOf t (command.SetWaveform id w) = doneAs (setWaveformOf t id w)
+runModulatorOf t (command.SetPhase id x) = doneAs (setPhaseOf t id x)
+runModulatorOf t (command.Value id) = record { answer = valueAs (modulatorValueOf t id); table = t }

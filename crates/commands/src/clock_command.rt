@@ -1,0 +1,133 @@
+// The calls on the clocks as values.
+ghost use mathlib.Core.Path.{_≡_};
+ghost use Rattle.times.specs.Times.{toldTime};
+ghost use Rattle.times.specs.Speeds.{toldSpeed};
+ghost use Rattle.clocks.specs.ClockTables.{toldFlag};
+ghost use Rattle.commands.specs.ClockCommands.{addedAs, doneAs, timeAs, flagAs, speedAs, runClockOf};
+use clocks::clocks::ClockAdded;
+use clocks::clocks::ClockDone;
+use clocks::clocks::ClockNamed;
+use clocks::clocks::Clocks;
+use clocks::clocks::Flagged;
+use clocks::clocks::add_clock;
+use clocks::clocks::clock_speed;
+use clocks::clocks::clock_ticking;
+use clocks::clocks::clock_time;
+use clocks::clocks::remove_clock;
+use clocks::clocks::reset_clock;
+use clocks::clocks::set_speed;
+use clocks::clocks::start_clock;
+use clocks::clocks::stop_clock;
+use times::clock_speed::ClockSpeed;
+use times::clock_speed::Speeded;
+use times::time::ClockId;
+use times::time::ClockTime;
+use times::time::Timed;
+use tweens::tween::Tween;
+use tweens::value::SpeedValue;
+
+pub enum ClockCommand {
+    Add(SpeedValue),
+    Remove(ClockId),
+    Start(ClockId),
+    Stop(ClockId),
+    Reset(ClockId),
+    SetSpeed(ClockId, SpeedValue, Tween),
+    Time(ClockId),
+    Ticking(ClockId),
+    Speed(ClockId),
+}
+
+pub enum ClockAnswer {
+    Done,
+    Id(ClockId),
+    Time(ClockTime),
+    Flag(bool),
+    Speed(ClockSpeed),
+    Refused(u32),
+}
+
+pub struct ClockRan {
+    pub answer: ClockAnswer,
+    pub table: Clocks,
+}
+
+fn added(r: ClockAdded) -> ClockRan
+    ensures { λ r1. ⌜ r1 ≡ addedAs r ⌝ }
+{
+    let named = r.answer;
+    let table = r.table;
+    let answer = match named {
+        ClockNamed::Is(id) => ClockAnswer::Id(id),
+        ClockNamed::Refused(n) => ClockAnswer::Refused(n),
+    };
+    ClockRan { answer, table }
+}
+
+fn done(r: ClockDone) -> ClockRan
+    ensures { λ r1. ⌜ r1 ≡ doneAs r ⌝ }
+{
+    let table = r.table;
+    if r.refused != 0 {
+        return ClockRan {
+            answer: ClockAnswer::Refused(r.refused),
+            table,
+        };
+    }
+    ClockRan {
+        answer: ClockAnswer::Done,
+        table,
+    }
+}
+
+fn time(r: Timed) -> ClockAnswer
+    ensures { λ r1. ⌜ r1 ≡ timeAs (toldTime r) ⌝ }
+{
+    match r {
+        Timed::At(t) => ClockAnswer::Time(t),
+        Timed::Refused(n) => ClockAnswer::Refused(n),
+    }
+}
+
+fn flag(r: Flagged) -> ClockAnswer
+    ensures { λ r1. ⌜ r1 ≡ flagAs (toldFlag r) ⌝ }
+{
+    match r {
+        Flagged::Is(b) => ClockAnswer::Flag(b),
+        Flagged::Refused(n) => ClockAnswer::Refused(n),
+    }
+}
+
+fn speed(r: Speeded) -> ClockAnswer
+    ensures { λ r1. ⌜ r1 ≡ speedAs (toldSpeed r) ⌝ }
+{
+    match r {
+        Speeded::Is(s) => ClockAnswer::Speed(s),
+        Speeded::Refused(n) => ClockAnswer::Refused(n),
+    }
+}
+
+pub fn run_clock(t: Clocks, c: ClockCommand) -> ClockRan
+    ensures { λ r. ⌜ r ≡ runClockOf t c ⌝ }
+{
+    match c {
+        ClockCommand::Add(v) => added(add_clock(t, v)),
+        ClockCommand::Remove(id) => done(remove_clock(t, id)),
+        ClockCommand::Start(id) => done(start_clock(t, id)),
+        ClockCommand::Stop(id) => done(stop_clock(t, id)),
+        ClockCommand::Reset(id) => done(reset_clock(t, id)),
+        ClockCommand::SetSpeed(id, v, w) => done(set_speed(t, id, v, w)),
+        ClockCommand::Time(id) => ClockRan {
+            answer: time(clock_time(t, id)),
+            table: t,
+        },
+        ClockCommand::Ticking(id) => ClockRan {
+            answer: flag(clock_ticking(t, id)),
+            table: t,
+        },
+        ClockCommand::Speed(id) => ClockRan {
+            answer: speed(clock_speed(t, id)),
+            table: t,
+        },
+    }
+}

@@ -1,0 +1,101 @@
+// The calls on the modulators as values.
+ghost use mathlib.Core.Path.{_≡_};
+ghost use Rattle.times.specs.Answer.{toldFloat};
+ghost use Rattle.commands.specs.ModulatorCommands.{addedAs, doneAs, valueAs, runModulatorOf};
+use modulator::lfo::LfoBuilder;
+use modulator::lfo::LfoParameter;
+use modulators::ModulatorAdded;
+use modulators::ModulatorDone;
+use modulators::ModulatorNamed;
+use modulators::Modulators;
+use modulators::add_lfo;
+use modulators::add_tweener;
+use modulators::modulator_value;
+use modulators::remove_modulator;
+use modulators::set_parameter;
+use modulators::set_phase;
+use modulators::set_tweener;
+use modulators::set_waveform;
+use times::judge::Floated;
+use tweens::tween::Tween;
+use tweens::value::FloatValue;
+use tweens::value::ModulatorId;
+use tweens::waveform::Waveform;
+
+pub enum ModulatorCommand {
+    AddTweener(f64),
+    AddLfo(LfoBuilder),
+    Remove(ModulatorId),
+    SetTweener(ModulatorId, f64, Tween),
+    SetParameter(ModulatorId, LfoParameter, FloatValue, Tween),
+    SetWaveform(ModulatorId, Waveform),
+    SetPhase(ModulatorId, f64),
+    Value(ModulatorId),
+}
+
+pub enum ModulatorAnswer {
+    Done,
+    Id(ModulatorId),
+    Value(f64),
+    Refused(u32),
+}
+
+pub struct ModulatorRan {
+    pub answer: ModulatorAnswer,
+    pub table: Modulators,
+}
+
+fn added(r: ModulatorAdded) -> ModulatorRan
+    ensures { λ r1. ⌜ r1 ≡ addedAs r ⌝ }
+{
+    let named = r.answer;
+    let table = r.table;
+    let answer = match named {
+        ModulatorNamed::Is(id) => ModulatorAnswer::Id(id),
+        ModulatorNamed::Refused(n) => ModulatorAnswer::Refused(n),
+    };
+    ModulatorRan { answer, table }
+}
+
+fn done(r: ModulatorDone) -> ModulatorRan
+    ensures { λ r1. ⌜ r1 ≡ doneAs r ⌝ }
+{
+    let table = r.table;
+    if r.refused != 0 {
+        return ModulatorRan {
+            answer: ModulatorAnswer::Refused(r.refused),
+            table,
+        };
+    }
+    ModulatorRan {
+        answer: ModulatorAnswer::Done,
+        table,
+    }
+}
+
+fn value(r: Floated) -> ModulatorAnswer
+    ensures { λ r1. ⌜ r1 ≡ valueAs (toldFloat r) ⌝ }
+{
+    match r {
+        Floated::Is(x) => ModulatorAnswer::Value(x),
+        Floated::Refused(n) => ModulatorAnswer::Refused(n),
+    }
+}
+
+pub fn run_modulator(t: Modulators, c: ModulatorCommand) -> ModulatorRan
+    ensures { λ r. ⌜ r ≡ runModulatorOf t c ⌝ }
+{
+    match c {
+        ModulatorCommand::AddTweener(x) => added(add_tweener(t, x)),
+        ModulatorCommand::AddLfo(b) => added(add_lfo(t, b)),
+        ModulatorCommand::Remove(id) => done(remove_modulator(t, id)),
+        ModulatorCommand::SetTweener(id, x, w) => done(set_tweener(t, id, x, w)),
+        ModulatorCommand::SetParameter(id, k, v, w) => done(set_parameter(t, id, k, v, w)),
+        ModulatorCommand::SetWaveform(id, w) => done(set_waveform(t, id, w)),
+        ModulatorCommand::SetPhase(id, x) => done(set_phase(t, id, x)),
+        ModulatorCommand::Value(id) => ModulatorRan {
+            answer: value(modulator_value(t, id)),
+            table: t,
+        },
+    }
+}

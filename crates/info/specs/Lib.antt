@@ -1,0 +1,2 @@
+pub mod Infos
+pub mod ParametersIn

@@ -1,0 +1,176 @@
+// What is seen of all clocks and modulators, and the questions that are put to it.
+ghost use mathlib.Core.Path.{_≡_};
+ghost use Rattle.times.specs.Starts.{toldStart};
+ghost use Rattle.info.specs.Infos.{reachedOf, dueOf, whenToStartOf, modulatorValueOf, startDueOf, floatInputOf, speedInputOf, whenOf, toldWhen, startUpIn, rawFloatIn, rawSpeedIn, toldRawFloat, toldRawSpeed};
+use tables::Found;
+use tables::Key;
+use tables::find;
+use times::judge::first_fault;
+use times::judge::fraction_faults;
+use times::start_time::StartTime;
+use times::start_time::StartUp;
+use times::start_time::When;
+use times::start_time::start_up;
+use times::time::ClockTime;
+use times::time::Order;
+use times::time::partial_cmp;
+use tweens::value::FloatValue;
+use tweens::value::Input;
+use tweens::value::ModulatorId;
+use tweens::value::RawFloat;
+use tweens::value::RawSpeed;
+use tweens::value::SpeedValue;
+use tweens::value::float_value_faults;
+use tweens::value::raw_float;
+use tweens::value::raw_speed;
+use tweens::value::speed_value_faults;
+
+// What is seen of one clock. A clock that has not started reads 0 and 0.0.
+pub struct ClockInfo {
+    pub ticking: bool,
+    pub ticks: u64,
+    pub fraction: f64,
+}
+
+// A key and what is seen for each slot, of clocks and of modulators.
+pub struct Info {
+    pub clock_keys: [Key; 16],
+    pub clocks: [ClockInfo; 16],
+    pub modulator_keys: [Key; 16],
+    pub values: [f64; 16],
+}
+
+pub enum Whened {
+    Is(When),
+    Refused(u32),
+}
+
+pub enum FloatRead {
+    Is(RawFloat),
+    Refused(u32),
+}
+
+pub enum SpeedRead {
+    Is(RawSpeed),
+    Refused(u32),
+}
+
+// Whether a clock's time is at or past a time of it.
+fn reached(c: ClockInfo, t: ClockTime) -> bool
+    ensures { λ r. ⌜ r ≡ reachedOf c t ⌝ }
+{
+    let clock = t.clock;
+    let present = ClockTime {
+        clock,
+        ticks: c.ticks,
+        fraction: c.fraction,
+    };
+    match partial_cmp(present, t) {
+        Order::Less => false,
+        Order::Equal => true,
+        Order::Greater => true,
+        Order::Unordered => false,
+    }
+}
+
+// When a time of a clock that lives is due.
+fn due(c: ClockInfo, t: ClockTime) -> When
+    ensures { λ r. ⌜ r ≡ dueOf c t ⌝ }
+{
+    if c.ticking {
+        if reached(c, t) {
+            return When::Now;
+        }
+    }
+    When::Later
+}
+
+// When any clock time is due.
+pub fn when_to_start(info: Info, t: ClockTime) -> When
+    ensures { λ r. ⌜ r ≡ whenToStartOf info t ⌝ }
+{
+    let keys = info.clock_keys;
+    let id = t.clock;
+    let Found::At(i) = find(keys, id.slot, id.generation) else {
+        return When::Never;
+    };
+    let c = info.clocks[i];
+    due(c, t)
+}
+
+pub fn modulator_value(info: Info, id: ModulatorId) -> Input
+    ensures { λ r. ⌜ r ≡ modulatorValueOf info id ⌝ }
+{
+    let keys = info.modulator_keys;
+    let Found::At(i) = find(keys, id.slot, id.generation) else {
+        return Input::None;
+    };
+    Input::Is(info.values[i])
+}
+
+// When a start's clock time is due. A start with no clock does not ask.
+pub fn start_due(info: Info, start: StartTime) -> When
+    ensures { λ r. ⌜ r ≡ startDueOf info start ⌝ }
+{
+    match start {
+        StartTime::Immediate => When::Later,
+        StartTime::Delayed(_) => When::Later,
+        StartTime::At(t) => when_to_start(info, t),
+    }
+}
+
+// What the modulator of a value shows. A fixed value has none.
+pub fn float_input(info: Info, v: FloatValue) -> Input
+    ensures { λ r. ⌜ r ≡ floatInputOf info v ⌝ }
+{
+    match v {
+        FloatValue::Fixed(_) => Input::None,
+        FloatValue::FromModulator(id, _) => modulator_value(info, id),
+    }
+}
+
+pub fn speed_input(info: Info, v: SpeedValue) -> Input
+    ensures { λ r. ⌜ r ≡ speedInputOf info v ⌝ }
+{
+    match v {
+        SpeedValue::Fixed(_) => Input::None,
+        SpeedValue::FromModulator(id, _) => modulator_value(info, id),
+    }
+}
+
+pub fn when(info: Info, t: ClockTime) -> Whened
+    ensures { λ r. ⌜ toldWhen r ≡ whenOf info t ⌝ }
+{
+    let n = first_fault(fraction_faults(t.fraction));
+    if n != 0 {
+        return Whened::Refused(n);
+    }
+    Whened::Is(when_to_start(info, t))
+}
+
+pub fn read_float(info: Info, v: FloatValue) -> FloatRead
+    ensures { λ r. ⌜ toldRawFloat r ≡ rawFloatIn info v ⌝ }
+{
+    let n = first_fault(float_value_faults(v));
+    if n != 0 {
+        return FloatRead::Refused(n);
+    }
+    FloatRead::Is(raw_float(v, float_input(info, v)))
+}
+
+pub fn read_speed(info: Info, v: SpeedValue) -> SpeedRead
+    ensures { λ r. ⌜ toldRawSpeed r ≡ rawSpeedIn info v ⌝ }
+{
+    let n = first_fault(speed_value_faults(v));
+    if n != 0 {
+        return SpeedRead::Refused(n);
+    }
+    SpeedRead::Is(raw_speed(v, speed_input(info, v)))
+}
+
+// A start time after dt, with the clocks as they stand.
+pub fn start_in(info: Info, start: StartTime, dt: f64) -> StartUp
+    ensures { λ r. ⌜ toldStart r ≡ startUpIn info start dt ⌝ }
+{
+    start_up(start, dt, start_due(info, start))
+}

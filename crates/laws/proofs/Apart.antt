@@ -1,0 +1,77 @@
+-- A call leaves every living entry that it does not act on: a call on one clock every other clock and all modulators, and the reverse. Assumes nothing.
+use Prim.Native.Nat.{ℕ}
+use mathlib.Core.Path.{_≡_, refl, sym, _∙_}
+use mathlib.Core.Bool.{Bool, true, false, _&&_, false≢true}
+use mathlib.Core.List.{List}
+use lib.Seq.{getD-set-other}
+use lib.Dec.{eqb}
+use borrow.Author.Tests.{eqb-true}
+use Rattle.tables.specs.Keys.{freeOf, livesIn, usedAt, generationAt}
+use Rattle.tables.specs.declared.Key.{Key}
+use Rattle.tables.specs.declared.Room.the-variants as room
+use Rattle.tables.proofs.Names as names
+use Rattle.tables.proofs.Places.{lives-parts, gives}
+use Rattle.commands.specs.declared.clock_command.ClockCommand.{ClockCommand}
+use Rattle.commands.specs.declared.modulator_command.ModulatorCommand.{ModulatorCommand}
+use Rattle.station.specs.declared.station.Station.{Station}
+use Rattle.laws.specs.Calls.{Call, clock, modulator, after, Kind, keysOf, lives, Told, Target, targetOf, Touches, Stays, Untouched}
+use Rattle.laws.proofs.Deeds.{Deed, leaves, changes, removes, adds, turns, deed}
+
+-- ---- slots
+
+lives-there : (ks : List Key) (i g : ℕ) → livesIn ks i g ≡ true → (usedAt ks i ≡ true) × (generationAt ks i ≡ g)
+lives-there ks i g l = go (usedAt ks i) refl (rw lives-parts at l)
+  where
+    go : (u : Bool) → usedAt ks i ≡ u → (u && eqb (generationAt ks i) g) ≡ true → (usedAt ks i ≡ true) × (generationAt ks i ≡ g)
+    go true u e = (u, eqb-true _ _ e)
+    go false u e = absurd (false≢true e)
+
+module _ (ks : List Key) (j h : ℕ) (l : livesIn ks j h ≡ true) where
+  -- another id that lives is in another slot
+  slots-apart : (i g : ℕ) → livesIn ks i g ≡ true → (j ≡ i → h ≡ g → ⊥) → j ≡ i → ⊥
+  slots-apart i g m n p = n p (sym (lives-there ks j h l .1) ∙ (rw (sym p) at (lives-there ks i g m .1)))
+
+  -- an add takes no slot in which an id lives
+  slot-taken : (i g : ℕ) → freeOf 0 ks ≡ room.At i g → j ≡ i → ⊥
+  slot-taken i g e p = false≢true (sym (gives ks i g e .empty) ∙ (rw p at (lives-there ks j h l .0)))
+
+-- ---- entries
+
+stays :
+    {A : Type 0} {k : Kind} {ks ls : List Key} {es fs : List A} {a : Target} {o : Told} → Deed k ks es a o ls fs → (j h : ℕ) → (Touches a k j h → ⊥)
+    → livesIn ks j h ≡ true → Stays ks ls es fs j h
+stays (leaves a o u) j h n l = record { sameKey = λ d. refl; sameEntry = λ d. refl; alive = l }
+stays {ks = ks} {es = es} (changes i g x m) j h n l = record {
+  sameKey = λ d. refl;
+  sameEntry = λ d. getD-set-other es i j x d (slots-apart ks j h l i g m (λ p q. n cc));
+  alive = l;
+}
+stays {ks = ks} (removes i g m) j h n l = record {
+  sameKey = λ d. getD-set-other ks i j _ d (slots-apart ks j h l i g m (λ p q. n cc));
+  sameEntry = λ d. refl;
+  alive = names.remove-others ks i g m j h (λ p q. n cc) ∙ l;
+}
+stays {ks = ks} {es = es} (adds i g x e) j h n l = record {
+  sameKey = λ d. getD-set-other ks i j _ d (slot-taken ks j h l i g e);
+  sameEntry = λ d. getD-set-other es i j x d (slot-taken ks j h l i g e);
+  alive = names.add-others ks i g e j h (λ p q. slot-taken ks j h l i g e p) ∙ l;
+}
+stays (turns fs) j h n l = absurd (n tt)
+
+module _ (k : Kind) (st : Station) where
+  -- two different ids that both live name different slots
+  pub two-slots : (i g j h : ℕ) → lives k st i g ≡ true → lives k st j h ≡ true → (i ≡ j → g ≡ h → ⊥) → i ≡ j → ⊥
+  two-slots i g j h l m = slots-apart (keysOf k st) i g l j h m
+
+  pub apart : (c : Call) (j h : ℕ) → (Touches (targetOf c) k j h → ⊥) → lives k st j h ≡ true → Untouched k st (after st c) j h
+  apart c j h n l = stays (deed k st c) j h n l
+
+-- ---- tables
+
+-- a call on the clocks leaves the modulators, whole
+pub clocks-alone : (st : Station) (c : ClockCommand) → after st (clock c) .modulators ≡ st .modulators
+clocks-alone st c = refl
+
+-- and a call on the modulators the clocks
+pub modulators-alone : (st : Station) (c : ModulatorCommand) → after st (modulator c) .clocks ≡ st .clocks
+modulators-alone st c = refl

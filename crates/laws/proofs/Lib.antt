@@ -1,0 +1,16 @@
+-- Laws that the crates above cite: `Accepted` on what a call without faults was given, `Underway` on tweens, `Speeds` and `Floats` on parameters of both kinds, `Signed` on mixes of doubles of both signs, `Waves` on phases and waves, `Clear` on fractions without a minus sign, `ClocksKept` and `ModulatorsKept` on the two tables, `Reached` on every station that calls can reach, `Refusals` on what a refusal leaves, `Lives` on ids over runs of calls, `Apart` on entries that a call does not act on. `Every` and `Deeds` have what the last six share.
+pub mod Accepted
+pub mod Underway
+pub mod Speeds
+pub mod Signed
+pub mod Floats
+pub mod Waves
+pub mod Clear
+pub mod ClocksKept
+pub mod ModulatorsKept
+pub mod Reached
+pub mod Refusals
+pub mod Lives
+pub mod Apart
+mod Every
+mod Deeds

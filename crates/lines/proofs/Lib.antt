@@ -1,0 +1,2 @@
+-- What holds of the functions' statements themselves: `Outcomes`.
+pub mod Outcomes

@@ -1,0 +1,3 @@
+pub mod ClockLines
+pub mod ModulatorLines
+pub mod Things

@@ -1,0 +1,2 @@
+pub mod Lfos
+pub mod Tweeners

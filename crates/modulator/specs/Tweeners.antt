@@ -1,0 +1,48 @@
+-- Document 01, "modulator/tweener.rs": "The tweener starts as a parameter does and holds its value while waiting." Assumes nothing.
+use lib.Ieee.{Float}
+use Rattle.times.specs.Judge.{bothFaults, floatFaults}
+use Rattle.times.specs.Speeds.{interpolateOf}
+use Rattle.times.specs.declared.judge.Faults.{Faults}
+use Rattle.times.specs.declared.start_time.When.{When}
+use Rattle.tweens.specs.Easings.{tweenFaults}
+use Rattle.tweens.specs.declared.tween.Tween.{Tween}
+use Rattle.parameters.specs.Courses.{newCourse, stepOf, amountAt}
+use Rattle.parameters.specs.declared.course.Course.{Course}
+use Rattle.parameters.specs.declared.course.Stepped.{Stepped}
+use Rattle.parameters.specs.declared.course.Stepped.the-variants.{Waits, Goes, Ends}
+use Rattle.modulator.specs.declared.tweener.TweenerMove.{TweenerMove}
+use Rattle.modulator.specs.declared.tweener.TweenerState.{TweenerState}
+use Rattle.modulator.specs.declared.tweener.TweenerState.the-variants.{Idle, Tweening}
+use Rattle.modulator.specs.declared.tweener.Tweener.{Tweener}
+
+abbrev pub newTweener : Float → Tweener
+newTweener x = record { state = Idle; value = x }
+
+abbrev pub tweenerFaults : Float → Tween → Faults
+tweenerFaults x t = bothFaults (floatFaults x) (tweenFaults t)
+
+-- a tween from the present value, at time 0
+abbrev pub setTweenerOf : Float → Tween → Tweener → Tweener
+setTweenerOf x w t = record {
+  state = Tweening (record { start = t .value; target = x; course = newCourse w });
+  value = t .value;
+}
+
+abbrev pub onCourse : TweenerMove → Course → Float → Tweener
+onCourse m c x = record { state = Tweening (record { start = m .start; target = m .target; course = c }); value = x }
+
+-- waiting, under way, or at its target
+abbrev pub byStep : TweenerMove → Stepped → Float → Tweener
+byStep m (Waits c) x = onCourse m c x
+byStep m (Goes c) x = onCourse m c (interpolateOf (m .start) (m .target) (amountAt c))
+byStep m Ends x = record { state = Idle; value = m .target }
+
+unfoldable pub movedOf : TweenerMove → Float → When → Float → Tweener
+movedOf m dt w x = byStep m (stepOf (m .course) dt w) x
+
+abbrev pub byState : Tweener → TweenerState → Float → When → Tweener
+byState t Idle dt w = t
+byState t (Tweening m) dt w = movedOf m dt w (t .value)
+
+unfoldable pub updateTweenerOf : Tweener → Float → When → Tweener
+updateTweenerOf t dt w = byState t (t .state) dt w

@@ -1,0 +1,23 @@
+-- Any two outcomes that a statement allows coincide, the result and the buffer: `Same` of the crate `answers` says it of the very clause that the check reads off the source (`Reads.Post`). Assumes nothing.
+use denote.Ref.{now}
+use Rattle.answers.proofs.Outcomes.{Same, same}
+use Rattle.replies.proofs.ok.Reads as ok
+use Rattle.replies.proofs.ok.Kinds as ok-kinds
+use Rattle.replies.proofs.clock.Reads as clock
+use Rattle.replies.proofs.clock.Kinds as clock-kinds
+use Rattle.replies.proofs.modulator.Reads as modulator
+use Rattle.replies.proofs.modulator.Kinds as modulator-kinds
+use Rattle.replies.proofs.frame.Reads as frame
+use Rattle.replies.proofs.frame.Kinds as frame-kinds
+
+pub one-ok : Same 1 ok-kinds.ps ok-kinds.r ok.Post (λ κs s. now (s .0))
+one-ok κs a x y s t = same
+
+pub one-clock : Same 1 clock-kinds.ps clock-kinds.r clock.Post (λ κs s. now (s .0))
+one-clock κs a x y s t = same
+
+pub one-modulator : Same 1 modulator-kinds.ps modulator-kinds.r modulator.Post (λ κs s. now (s .0))
+one-modulator κs a x y s t = same
+
+pub one-frame : Same 1 frame-kinds.ps frame-kinds.r frame.Post (λ κs s. now (s .0))
+one-frame κs a x y s t = same

@@ -1,0 +1,44 @@
+-- `replies::clock` is proved: each kind of answer has its line. Assumes nothing.
+use denote.Ref.{now}
+use mathlib.Core.Path.{_∙_}
+use Rattle.answers.specs.Answers.{place, speedText}
+use Rattle.answers.proofs.Pieces.{line}
+use Rattle.replies.proofs.clock.Statement.{statement}
+use Rattle.replies.proofs.clock.Tie as tie
+
+returns : tie.Need-returns
+returns c = rw (c .before .before .before .before .enum-told .given .1) (c .before .before .ok .ensures)
+
+returns-2 : tie.Need-returns-2
+returns-2 c = rw (c .before .before .before .before .before .answer .given .1) (c .before .before .id .ensures)
+
+returns-3 : tie.Need-returns-3
+returns-3 c = rw (c .before .before .before .before .before .before .before .before .before .answer2 .given .1, c .before .before .end .ensures, c .before .before .before .before .before .before .time .ensures)
+
+returns-4 : tie.Need-returns-4
+returns-4 c = rw (c .before .before .before .before .before .before .before .before .before .answer3 .given .1, c .before .before .end2 .ensures, c .before .before .before .before .before .before .flag .ensures)
+
+returns-5 : tie.Need-returns-5
+returns-5 c =
+    let known = c .before .before .before .before .before .before .before .before .before in
+    rw (known .answer4 .given .1) (line (place (now (known .before .before .before .args .out)) 0) (speedText (known .answer4 .given .0 .0)) (c .before .before .before .before .before .before .speed .ensures) (c .before .before .end3 .ensures))
+
+returns-6 : tie.Need-returns-6
+returns-6 c = rw (c .before .before .before .before .before .answer5 .given .1) (c .before .before .refused .ensures)
+
+pub clock-spec : {M : Type 1} → statement M
+clock-spec =
+    tie.close
+    (tie.spec
+    (λ c. c .match .keys1) (λ _ _. tt)
+    (λ c. c .match .keys2) (λ _ _. tt)
+    (λ c. c .match .keys3) (λ _ _. tt) (λ _ _. tt)
+    (λ c. c .match .keys4) (λ _ _. tt) (λ _ _. tt)
+    (λ c. c .match .keys5) (λ _ _. tt) (λ _ _. tt)
+    (λ c. c .match .keys6) (λ _ _. tt)
+    (λ c. c .before .before .ok .kept .0) returns
+    (λ c. c .before .before .id .kept .0) returns-2
+    (λ c. c .before .before .end .kept .0 ∙ c .before .before .before .before .before .before .time .kept .0) returns-3
+    (λ c. c .before .before .end2 .kept .0 ∙ c .before .before .before .before .before .before .flag .kept .0) returns-4
+    (λ c. c .before .before .end3 .kept .0 ∙ c .before .before .before .before .before .before .speed .kept .0) returns-5
+    (λ c. c .before .before .refused .kept .0) returns-6)
