@@ -1,14 +1,14 @@
 // One line's answer. Each family of calls answers its own lines and leaves the others; what is asked of
 // the state comes last.
-use crate::act::act;
-use crate::held::State;
-use crate::instants;
-use crate::mappings;
 use asks::Ask;
 use asks::of_line;
 use calls::curves;
 use calls::floats;
 use calls::speeds;
+use families::instants;
+use families::mappings;
+use state::act::act;
+use state::held::State;
 use text::Word;
 
 // A line that was answered, and whether that could be written; or what it asks of the state.

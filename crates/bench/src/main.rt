@@ -1,16 +1,12 @@
 // The bench: calls on standard input, one a line, each answered with a line on standard output.
 // docs/BENCH.md has the calls. Input has no cap: it is taken in portions, and what has been read is
 // answered before more is read.
-mod act;
 mod answer;
-mod held;
-mod instants;
-mod mappings;
 
 ghost use Prim.Native.Nat.{_<_};
 ghost use lib.ListN.{length};
 use crate::answer::Heard;
-use crate::held::State;
+use state::held::State;
 
 // The longest line, its LF not counted, and a count that stands for a longer one.
 const LONGEST: usize = 1024;
@@ -154,7 +150,7 @@ fn all(line: &mut [u8], portion: &mut [u8]) {
     let mut held = Fed {
         count: 0,
         open: true,
-        state: held::new(),
+        state: state::held::new(),
     };
     let mut turns = u64::MAX;
     while turns > 0 && held.open {
