@@ -1,12 +1,7 @@
--- Answers as BENCH.md writes them, and what putting one into a lent buffer does. Assumes nothing.
-use Prim.Native.Nat.{ℕ, zero, suc, _+_, _^_}
-use mathlib.Core.Bool.{Bool, true, false, cond}
+-- Answers as BENCH.md writes them: the pieces of each text. Assumes nothing.
+use Prim.Native.Nat.{ℕ}
 use mathlib.Core.List.{List, [], _∷_, _++_}
-use lib.Dec.{leb, ltb}
-use lib.Ieee.{Float, binary64, toBits}
-use lib.ListN.{length}
-use lib.Seq.{paste}
-use Rattle.io.specs.Digits.{digits}
+use Rattle.digits.specs.Digits.{numberText, floatText}
 use Rattle.times.specs.declared.clock_speed.ClockSpeed.{ClockSpeed}
 use Rattle.times.specs.declared.clock_speed.ClockSpeed.the-variants.{SecondsPerTick, TicksPerSecond, TicksPerMinute}
 use Rattle.times.specs.declared.clock_speed.Speeded.{Speeded}
@@ -22,62 +17,11 @@ use Rattle.tweens.specs.declared.value.FloatMapping.{FloatMapping}
 use Rattle.tweens.specs.declared.value.FloatValue.{FloatValue}
 use Rattle.tweens.specs.declared.value.FloatValue.the-variants.{Fixed, FromModulator}
 
--- ---- what putting a text does
-
--- a buffer, and the place in it where the next text goes
-pub record Put : Type 0 where
-  pub out : List ℕ
-  pub at : ℕ
-
-abbrev pub place : List ℕ → ℕ → Put
-place out at = record { out = out; at = at }
-
--- where the bytes fit, the buffer holds them from the place on, every other byte is as before, and the next place is behind them; where they do not fit, nothing changes
-unfoldable pub putOf : Put → List ℕ → Put
-putOf p bs =
-    cond (leb (p .at + length bs) (length (p .out)))
-    (place (paste (p .out) (p .at) bs (length bs)) (p .at + length bs))
-    p
-
--- the pieces of a text, put one after the other. Where the whole text fits, that is the text put at once (`whole-fits` of this crate's proofs)
-abbrev pub putAll : Put → List (List ℕ) → Put
-putAll p [] = p
-putAll p (bs ∷ rest) = putAll (putOf p bs) rest
-
--- a text whose pieces are these
-abbrev pub whole : List (List ℕ) → List ℕ
-whole [] = []
-whole (bs ∷ rest) = bs ++ whole rest
-
--- ---- numbers
-
--- "F: 16 lower-case hex digits, a double's bits"
-unfoldable pub floatText : Float → List ℕ
-floatText x = digits 16 16 (toBits binary64 x)
-
--- the least number of digits, k or more, that holds n: the first power of ten that is above n tells it. `left` ends the search, and a number has never more digits than itself and 1
-unfoldable pub placesFrom : ℕ → ℕ → ℕ → ℕ
-placesFrom zero k n = k
-placesFrom (suc left) k n = cond (ltb n (10 ^ k)) k (placesFrom left (suc k) n)
-
--- "N: decimal u64, no leading zeros anywhere": one digit, and as many more as n needs
-unfoldable pub numberText : ℕ → List ℕ
-numberText n = digits 10 (placesFrom n 1 n) n
-
--- "`0` or `1`"
-abbrev pub flagText : Bool → List ℕ
-flagText true = 0x31 ∷ []
-flagText false = 0x30 ∷ []
-
 -- ---- words: each with the blank that parts it from what follows, if something does
 
 -- "Words are separated by one or more blanks, the byte 0x20 alone": one is written
 abbrev pub blank : List ℕ
 blank = 0x20 ∷ []
-
--- "A line ends with LF"
-abbrev pub lineEnd : List ℕ
-lineEnd = 0x0a ∷ []
 
 -- ":", of "SLOT:GENERATION"
 abbrev pub colon : List ℕ
@@ -167,9 +111,6 @@ floatValueText (Fixed x) = fixWord ∷ floatText x ∷ []
 floatValueText (FromModulator i m) = modWord ∷ (idText (i .slot) (i .generation) ++ (blank ∷ floatMapText m))
 
 -- ---- whole answers: "answers each with one line"
-
-abbrev pub lineOf : List (List ℕ) → List (List ℕ)
-lineOf text = text ++ (lineEnd ∷ [])
 
 -- "A refused call is answered `refused N`"
 abbrev pub refusedText : ℕ → List (List ℕ)

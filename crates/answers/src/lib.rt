@@ -3,8 +3,14 @@
 // piece that does not fit is left out. No function has a `requires`: each takes any buffer and any
 // place.
 ghost use mathlib.Core.Path.{_≡_};
-ghost use mathlib.Core.List.{[], _∷_};
-ghost use Rattle.answers.specs.Answers.{place, putOf, putAll, numberText, flagText, floatText, speedText, easeText, timeText, idText, startText, floatMapText, floatValueText, lineEnd, lineOf, refusedText, floatedText, speededText};
+ghost use Rattle.answers.specs.Answers.{speedText, easeText, timeText, idText, startText, floatMapText, floatValueText, refusedText, floatedText, speededText};
+ghost use Rattle.digits.specs.Puts.{place, putAll, lineOf};
+use digits::counted;
+use digits::end;
+use digits::float;
+use digits::named;
+use digits::number;
+use digits::put;
 use times::clock_speed::ClockSpeed;
 use times::clock_speed::Speeded;
 use times::judge::Floated;
@@ -13,67 +19,6 @@ use times::time::ClockTime;
 use tweens::tween::Easing;
 use tweens::value::FloatMapping;
 use tweens::value::FloatValue;
-
-// Puts bytes from a place on, where all of them fit; else nothing changes.
-pub fn put(out: &mut [u8], at: usize, bytes: &[u8]) -> usize
-    ensures { λ r. ⌜ place (now (out .exit)) r ≡ putOf (place (now (out .entry)) at) (now (bytes .entry)) ⌝ }
-{
-    if out.len() < at {
-        return at;
-    }
-    if out.len() - at < bytes.len() {
-        return at;
-    }
-    let mut i: usize = 0;
-    while i < bytes.len() {
-        out[at + i] = bytes[i];
-        i += 1;
-    }
-    at + i
-}
-
-pub fn number(out: &mut [u8], at: usize, n: u64) -> usize
-    ensures { λ r. ⌜ place (now (out .exit)) r ≡ putOf (place (now (out .entry)) at) (numberText n) ⌝ }
-{
-    let mut digits = [0u8; 20];
-    let count = io::decimal(n, &mut digits);
-    put(out, at, &digits[..count])
-}
-
-// A flag: 1 for true, 0 for false.
-pub fn flag(out: &mut [u8], at: usize, b: bool) -> usize
-    ensures { λ r. ⌜ place (now (out .exit)) r ≡ putOf (place (now (out .entry)) at) (flagText b) ⌝ }
-{
-    if b {
-        return put(out, at, b"1");
-    }
-    put(out, at, b"0")
-}
-
-// A double's bits, in 16 digits.
-pub fn float(out: &mut [u8], at: usize, x: f64) -> usize
-    ensures { λ r. ⌜ place (now (out .exit)) r ≡ putOf (place (now (out .entry)) at) (floatText x) ⌝ }
-{
-    let mut digits = [0u8; 16];
-    let count = io::hex(doubles::bits(x), 16, &mut digits);
-    put(out, at, &digits[..count])
-}
-
-// A word in front of a double.
-fn named(out: &mut [u8], at: usize, name: &[u8], x: f64) -> usize
-    ensures { λ r. ⌜ place (now (out .exit)) r ≡ putAll (place (now (out .entry)) at) (now (name .entry) ∷ floatText x ∷ []) ⌝ }
-{
-    let behind = put(out, at, name);
-    float(out, behind, x)
-}
-
-// A word in front of a number.
-fn counted(out: &mut [u8], at: usize, name: &[u8], n: u64) -> usize
-    ensures { λ r. ⌜ place (now (out .exit)) r ≡ putAll (place (now (out .entry)) at) (now (name .entry) ∷ numberText n ∷ []) ⌝ }
-{
-    let behind = put(out, at, name);
-    number(out, behind, n)
-}
 
 pub fn speed(out: &mut [u8], at: usize, s: ClockSpeed) -> usize
     ensures { λ r. ⌜ place (now (out .exit)) r ≡ putAll (place (now (out .entry)) at) (speedText s) ⌝ }
@@ -157,13 +102,6 @@ pub fn float_value(out: &mut [u8], at: usize, v: FloatValue) -> usize
             float_map(out, c, m)
         }
     }
-}
-
-// A line's end.
-pub fn end(out: &mut [u8], at: usize) -> usize
-    ensures { λ r. ⌜ place (now (out .exit)) r ≡ putOf (place (now (out .entry)) at) lineEnd ⌝ }
-{
-    put(out, at, b"\n")
 }
 
 // A whole answer: a refusal.

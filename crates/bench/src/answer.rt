@@ -1,20 +1,18 @@
 // One line's answer. Each family of calls answers its own lines and leaves the others; what is asked of
 // the state comes last.
-use asks::Ask;
-use asks::of_line;
 use calls::curves;
 use calls::floats;
 use calls::speeds;
 use families::instants;
 use families::mappings;
-use state::act::act;
+use state::answer::answer;
 use state::held::State;
 use text::Word;
 
-// A line that was answered, and whether that could be written; or what it asks of the state.
+// A line that was answered, and whether that could be written; or, by its name, what asks the state.
 pub enum Heard {
     Answered(bool),
-    Asks(Ask),
+    Asks(Word),
 }
 
 // Whether the answer was written, and the state.
@@ -78,15 +76,15 @@ pub fn line(line: &[u8]) -> Heard {
     let mut out = [0u8; 512];
     let n = called(line, name, &mut out);
     if n == 0 {
-        return Heard::Asks(of_line(line, name));
+        return Heard::Asks(name);
     }
     Heard::Answered(written(&out, n))
 }
 
-// Answers what is asked of the state.
-pub fn asked(ask: Ask, st: State) -> Done {
+// Answers a line that asks the state.
+pub fn asked(line: &[u8], name: Word, st: State) -> Done {
     let mut out = [0u8; 512];
-    let a = act(&mut out, st, ask);
+    let a = answer(line, name, &mut out, st);
     let state = a.state;
     if a.n == 0 {
         return Done {

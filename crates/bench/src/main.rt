@@ -5,8 +5,10 @@ mod answer;
 
 ghost use Prim.Native.Nat.{_<_};
 ghost use lib.ListN.{length};
+use crate::answer::Done;
 use crate::answer::Heard;
 use state::held::State;
+use text::Word;
 
 // The longest line, its LF not counted, and a count that stands for a longer one.
 const LONGEST: usize = 1024;
@@ -74,6 +76,17 @@ fn heard(line: &[u8], count: usize) -> Heard {
     answer::line(&line[0..count])
 }
 
+// Answers a whole line that asks the state.
+fn asked(line: &[u8], count: usize, name: Word, st: State) -> Done {
+    if line.len() < count {
+        return Done {
+            open: answer::error(),
+            state: st,
+        };
+    }
+    answer::asked(&line[0..count], name, st)
+}
+
 // Takes every byte of a portion, and answers each line that ends in it.
 fn feed(line: &mut [u8], held: usize, portion: &[u8], st: State) -> Fed {
     let mut count = held;
@@ -93,8 +106,8 @@ fn feed(line: &mut [u8], held: usize, portion: &[u8], st: State) -> Fed {
             Heard::Answered(written) => {
                 open = written;
             }
-            Heard::Asks(ask) => {
-                let done = answer::asked(ask, state);
+            Heard::Asks(name) => {
+                let done = asked(line, g.count, name, state);
                 state = done.state;
                 open = done.open;
             }
@@ -122,8 +135,8 @@ fn ended(line: &[u8], held: Fed) -> Fed {
     if 0 < held.count {
         match heard(line, held.count) {
             Heard::Answered(_) => {}
-            Heard::Asks(ask) => {
-                answer::asked(ask, state);
+            Heard::Asks(name) => {
+                asked(line, held.count, name, state);
             }
         }
     }

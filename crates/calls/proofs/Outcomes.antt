@@ -1,6 +1,6 @@
--- Any two outcomes that a statement allows coincide, the result and the buffer: `Same` of the crate `answers` says it of the very clause that the check reads off the source (`Reads.Post`). Assumes nothing.
+-- Any two outcomes that a statement allows coincide, the result and the buffer: `Same` of the crate `digits` says it of the very clause that the check reads off the source (`Reads.Post`). Assumes nothing.
 use denote.Ref.{now}
-use Rattle.answers.proofs.Outcomes.{Same, same}
+use Rattle.digits.proofs.Outcomes.{Same, same}
 use Rattle.calls.proofs.floats.call.Reads as floats
 use Rattle.calls.proofs.floats.call.Kinds as floats-kinds
 use Rattle.calls.proofs.curves.call.Reads as curves

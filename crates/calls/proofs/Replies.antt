@@ -11,8 +11,10 @@ use Rattle.times.specs.declared.clock_speed.Speeded.the-variants as speeded
 use Rattle.times.specs.declared.judge.Floated.{Floated}
 use Rattle.times.specs.declared.judge.Floated.the-variants as floated
 use Rattle.tweens.specs.declared.tween.Tween.{Tween}
-use Rattle.answers.specs.Answers.{Put, putOf, putAll, blank, lineEnd, lineOf, numberText, startText, easeText, floatedText, speededText}
-use Rattle.answers.proofs.Pieces.{after, line}
+use Rattle.answers.specs.Answers.{blank, startText, easeText, floatedText, speededText}
+use Rattle.digits.specs.Digits.{numberText}
+use Rattle.digits.specs.Puts.{Put, putOf, putAll, lineEnd, lineOf}
+use Rattle.digits.proofs.Pieces.{after, line}
 use Rattle.calls.specs.Calls.{floatAnswerText, speedAnswerText, floatLine, floatAnswer, speedAnswer, tweenText}
 
 float-text : (r : Floated) → floatedText r ≡ floatAnswerText (toldFloat r)

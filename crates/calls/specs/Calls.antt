@@ -16,7 +16,9 @@ use Rattle.tweens.specs.declared.waveform.Waveform.{Waveform}
 use Rattle.grammar.specs.Grammar.{named, endedAt, floatAt, numberAt, speedAt, easeAt, waveAt, withFloat, withNumber, withSpeed, withEase}
 use Rattle.grammar.specs.declared.WaveAt.{WaveAt}
 use Rattle.grammar.specs.declared.WaveAt.the-variants as waved
-use Rattle.answers.specs.Answers.{blank, floatText, numberText, speedText, easeText, startText, lineOf, refusedText}
+use Rattle.answers.specs.Answers.{blank, speedText, easeText, startText, refusedText}
+use Rattle.digits.specs.Digits.{floatText, numberText}
+use Rattle.digits.specs.Puts.{lineOf}
 
 -- ---- the calls' names, each by its bytes
 

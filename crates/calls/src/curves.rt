@@ -1,6 +1,6 @@
 // The calls ease, lerp and wave, and dur.secs and tween.default.
 ghost use mathlib.Core.Path.{_≡_};
-ghost use Rattle.answers.specs.Answers.{place, putAll, lineOf};
+ghost use Rattle.digits.specs.Puts.{place, putAll, lineOf};
 ghost use Rattle.calls.specs.Calls.{tweenText, easeReply, lerpReply, waveReply, secsReply, defaultReply, curvesOf};
 use grammar::EaseAt;
 use grammar::FloatAt;
@@ -76,11 +76,11 @@ fn tween(out: &mut [u8], t: Tween) -> usize
     let start = t.start_time;
     let easing = t.easing;
     let a = answers::start(out, 0, start);
-    let b = answers::put(out, a, b" ");
-    let c = answers::number(out, b, t.duration);
-    let d = answers::put(out, c, b" ");
+    let b = digits::put(out, a, b" ");
+    let c = digits::number(out, b, t.duration);
+    let d = digits::put(out, c, b" ");
     let e = answers::ease(out, d, easing);
-    answers::end(out, e)
+    digits::end(out, e)
 }
 
 fn default_tween(line: &[u8], at: usize, out: &mut [u8]) -> usize

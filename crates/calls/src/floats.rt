@@ -1,6 +1,6 @@
 // The calls f.*: a double in, a double out.
 ghost use mathlib.Core.Path.{_≡_};
-ghost use Rattle.answers.specs.Answers.{place, putAll};
+ghost use Rattle.digits.specs.Puts.{place, putAll};
 ghost use Rattle.calls.specs.Calls.{floatLine, floatsOf};
 use grammar::FloatAt;
 use text::Word;
@@ -9,8 +9,8 @@ use text::Word;
 fn answer(out: &mut [u8], x: f64) -> usize
     ensures { λ r. ⌜ place (now (out .exit)) r ≡ putAll (place (now (out .entry)) 0) (floatLine x) ⌝ }
 {
-    let at = answers::float(out, 0, x);
-    answers::end(out, at)
+    let at = digits::float(out, 0, x);
+    digits::end(out, at)
 }
 
 // The answer's length, or 0 where the line is no call of this family.

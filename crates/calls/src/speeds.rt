@@ -1,6 +1,6 @@
 // The calls speed.*.
 ghost use mathlib.Core.Path.{_≡_};
-ghost use Rattle.answers.specs.Answers.{place, putAll};
+ghost use Rattle.digits.specs.Puts.{place, putAll};
 ghost use Rattle.calls.specs.Calls.{speedLerpReply, speedsOf};
 use grammar::FloatAt;
 use grammar::SpeedAt;

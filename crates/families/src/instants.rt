@@ -28,7 +28,7 @@ fn timed(out: &mut [u8], r: Timed) -> usize {
     match r {
         Timed::At(t) => {
             let at = answers::time(out, 0, t);
-            answers::end(out, at)
+            digits::end(out, at)
         }
         Timed::Refused(n) => answers::refused(out, n),
     }
@@ -37,10 +37,10 @@ fn timed(out: &mut [u8], r: Timed) -> usize {
 fn compared(out: &mut [u8], r: Compared) -> usize {
     match r {
         Compared::Is(o) => match o {
-            Order::Less => answers::put(out, 0, b"lt\n"),
-            Order::Equal => answers::put(out, 0, b"eq\n"),
-            Order::Greater => answers::put(out, 0, b"gt\n"),
-            Order::Unordered => answers::put(out, 0, b"none\n"),
+            Order::Less => digits::put(out, 0, b"lt\n"),
+            Order::Equal => digits::put(out, 0, b"eq\n"),
+            Order::Greater => digits::put(out, 0, b"gt\n"),
+            Order::Unordered => digits::put(out, 0, b"none\n"),
         },
         Compared::Refused(n) => answers::refused(out, n),
     }

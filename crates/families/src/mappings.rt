@@ -82,7 +82,7 @@ fn map_op(line: &[u8], at: usize, op: Word, out: &mut [u8]) -> usize {
     match map_output(m, o) {
         Mapped::Is(r) => {
             let end = answers::float_map(out, 0, r);
-            answers::end(out, end)
+            digits::end(out, end)
         }
         Mapped::Refused(n) => answers::refused(out, n),
     }
@@ -101,7 +101,7 @@ fn value_op(line: &[u8], at: usize, op: Word, out: &mut [u8]) -> usize {
     match value_output(v, o) {
         Valued::Is(r) => {
             let end = answers::float_value(out, 0, r);
-            answers::end(out, end)
+            digits::end(out, end)
         }
         Valued::Refused(n) => answers::refused(out, n),
     }

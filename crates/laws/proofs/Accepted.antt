@@ -8,7 +8,8 @@ use lib.Dec.{T, eqb}
 use lib.Ieee.{Float, nan, inf, fin, down, le, isNan}
 use borrow.Author.Tests.{eqb-true}
 use Rattle.doubles.specs.Doubles.{zeroF}
-use Rattle.doubles.proofs.Unit.{Between, order→le, le-of-not-lt}
+use Rattle.doubles.specs.Intervals.{Between}
+use Rattle.doubles.proofs.Unit.{order→le, le-of-not-lt}
 use Rattle.times.specs.Judge.{noFaults, bothFaults, dtFaults, badDt, firstFault}
 use Rattle.times.specs.declared.judge.Faults.{Faults}
 use Rattle.times.proofs.Judged.{none-set}

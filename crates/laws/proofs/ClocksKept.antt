@@ -10,7 +10,8 @@ use lib.Ieee.Fits.{add-fits, sub-fits}
 use lib.Ieee.Scale.{finite}
 use borrow.Author.Tests.{ltb-false}
 use Rattle.doubles.specs.Doubles.{zeroF, oneF, signOf, wholeOf}
-use Rattle.doubles.proofs.Unit.{Between, le-same, le-of-lt, le-of-not-lt, between-is, between-finite, finite-is, on-of-between, add-mono, mul-mono}
+use Rattle.doubles.specs.Intervals.{Between}
+use Rattle.doubles.proofs.Unit.{le-same, le-of-lt, le-of-not-lt, between-is, between-finite, finite-is, on-of-between, add-mono, mul-mono}
 use Rattle.tables.specs.Keys.{freeOf, livesIn}
 use Rattle.tables.specs.declared.Room.{Room}
 use Rattle.tables.specs.declared.Room.the-variants as room

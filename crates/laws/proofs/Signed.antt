@@ -17,7 +17,8 @@ use lib.Ieee.Positive.{num, den, den-pos}
 use lib.Ieee.Scale.{grid, overflow, finite, round-same, round-val, round-under}
 use borrow.Author.Tests.{ltb-true, ltb-false, lt-ltb, le-ltb}
 use Rattle.doubles.specs.Doubles.{zeroF, signOf}
-use Rattle.doubles.proofs.Unit.{Between, InUnit, Side, Rounds, no-times, none, le→order, order→le, le-trans, between-finite, round-least, round-value, grid-le, upto-of-between, value-upto}
+use Rattle.doubles.specs.Intervals.{Between, InUnit}
+use Rattle.doubles.proofs.Unit.{Side, Rounds, no-times, none, le→order, order→le, le-trans, between-finite, round-least, round-value, grid-le, upto-of-between, value-upto}
 use Rattle.doubles.proofs.Ranges.{Is, closest-over, grid-whole, rounds-is, is-mul, steady-40}
 use Rattle.doubles.proofs.Quotients.{gap, sum-gap, units-of}
 use Rattle.times.specs.Speeds.{interpolateOf}

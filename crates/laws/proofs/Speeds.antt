@@ -12,7 +12,8 @@ use Rattle.times.specs.declared.judge.Faults.{Faults}
 use Rattle.times.specs.declared.clock_speed.ClockSpeed.{ClockSpeed}
 use Rattle.times.specs.declared.clock_speed.ClockSpeed.the-variants.{SecondsPerTick, TicksPerSecond, TicksPerMinute}
 use Rattle.times.specs.declared.start_time.When.{When}
-use Rattle.times.proofs.Rates.{Running, Reachable, numberOf, like, mix-is, accepted-above, accepted-running, above-wider, interpolated-running, rate}
+use Rattle.times.specs.RunningSpeeds.{Running, Reachable, numberOf}
+use Rattle.times.proofs.Rates.{like, mix-is, accepted-above, accepted-running, above-wider, interpolated-running, rate}
 use Rattle.tweens.specs.Easings.{tweenFaults}
 use Rattle.tweens.specs.Values.{speedValueFaults, rawSpeedOf, mapSpeedOf}
 use Rattle.tweens.specs.declared.tween.Tween.{Tween}

@@ -15,7 +15,8 @@ use lib.Ieee.Positive.{positive, positive-finite, between}
 use borrow.Author.Tests.{ltb-false, le-ltb, ne-eqb, eqb-false}
 use Rattle.doubles.specs.Doubles.{zeroF, oneF}
 use Rattle.doubles.proofs.Held.{held}
-use Rattle.doubles.proofs.Unit.{Between, InUnit, le-trans, le-same, le-of-not-lt, between-is, between-finite, between-wider, finite-is, round-least, add-mono}
+use Rattle.doubles.specs.Intervals.{Between, InUnit}
+use Rattle.doubles.proofs.Unit.{le-trans, le-same, le-of-not-lt, between-is, between-finite, between-wider, finite-is, round-least, add-mono}
 use Rattle.doubles.proofs.Quotients.{div-mono}
 use Rattle.times.specs.Durations.{nanosOf, secondsOf}
 use Rattle.times.specs.Judge.{noFaults, bothFaults, badSpan, spanFaults, dtFaults}

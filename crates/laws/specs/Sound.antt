@@ -7,11 +7,11 @@ use lib.Dec.{T}
 use lib.Ieee.{Float, fin, binary64, fits}
 use lib.Ieee.Scale.{finite}
 use Rattle.doubles.specs.Doubles.{zeroF}
-use Rattle.doubles.proofs.Unit.{Between}
+use Rattle.doubles.specs.Intervals.{Between}
 use Rattle.times.specs.Durations.{secondsOf}
 use Rattle.times.specs.Judge.{noFaults}
 use Rattle.times.specs.Speeds.{badReading}
-use Rattle.times.proofs.Rates.{Running, numberOf}
+use Rattle.times.specs.RunningSpeeds.{Running, numberOf}
 use Rattle.tweens.specs.Easings.{tweenFaults}
 use Rattle.tweens.specs.Values.{floatValueFaults, speedValueFaults}
 use Rattle.tweens.specs.declared.value.Input.{Input}

@@ -5,7 +5,6 @@ use mathlib.Core.List.{List, [], _∷_}
 use Rattle.text.specs.declared.Word.{Word}
 use Rattle.times.specs.declared.time.ClockId.{ClockId}
 use Rattle.grammar.specs.Grammar.{named, endedAt, idAt, withId}
-use Rattle.commands.specs.declared.clock_command.ClockCommand.{ClockCommand}
 use Rattle.commands.specs.declared.clock_command.ClockCommand.the-variants.{Add, Remove, Start, Stop, Reset, SetSpeed, Time, Ticking, Speed}
 use Rattle.lines.specs.Things.{speedValueAt, tweenAt, withSpeedValue, withTween}
 use Rattle.lines.specs.declared.clock_lines.ClockLine.{ClockLine}

@@ -13,7 +13,6 @@ use Rattle.grammar.specs.declared.WaveAt.{WaveAt}
 use Rattle.grammar.specs.declared.WaveAt.the-variants as wave
 use Rattle.modulator.specs.declared.lfo.LfoParameter.{LfoParameter}
 use Rattle.modulator.specs.declared.lfo.LfoParameter.the-variants.{Frequency, Amplitude, Offset}
-use Rattle.commands.specs.declared.modulator_command.ModulatorCommand.{ModulatorCommand}
 use Rattle.commands.specs.declared.modulator_command.ModulatorCommand.the-variants.{AddTweener, AddLfo, Remove, SetTweener, SetParameter, SetWaveform, SetPhase, Value}
 use Rattle.lines.specs.Things.{tweenAt, withTween}
 use Rattle.lines.specs.declared.modulator_lines.ModulatorLine.{ModulatorLine}

@@ -1,6 +1,6 @@
 -- Document 01, "lfo.rs". Assumes nothing.
-use mathlib.Core.Bool.{Bool, false}
-use lib.IntN.{pos, negsuc}
+use mathlib.Core.Bool.{false}
+use lib.IntN.{negsuc}
 use lib.Ieee.{Float, fin, binary64, add, mul, div, rem}
 use Rattle.doubles.specs.Doubles.{zeroF, oneF, twoF}
 use Rattle.times.specs.Judge.{bothFaults, floatFaults}

@@ -32,7 +32,6 @@ use Rattle.modulators.specs.declared.Modulator.the-variants.{OfTweener, 
 use Rattle.modulators.specs.declared.Slot.{Slot}
 use Rattle.modulators.specs.declared.Modulators.{Modulators}
 use Rattle.modulators.specs.declared.ModulatorDone.{ModulatorDone}
-use Rattle.modulators.specs.declared.ModulatorNamed.{ModulatorNamed}
 use Rattle.modulators.specs.declared.ModulatorNamed.the-variants as named
 use Rattle.modulators.specs.declared.ModulatorAdded.{ModulatorAdded}
 

@@ -1,6 +1,7 @@
--- Any two outcomes that a statement allows coincide, the result and the buffer: `Same` of the crate `answers` says it of the very clause that the check reads off the source (`Reads.Post`). Assumes nothing.
+-- Any two outcomes that a statement allows coincide, the result and the buffer: `Same` of the crate `digits` says it of the very clause that the check reads off the source (`Reads.Post`). Assumes nothing.
+use mathlib.Core.Path.{refl, sym, _∙_}
 use denote.Ref.{now}
-use Rattle.answers.proofs.Outcomes.{Same, same}
+use Rattle.digits.proofs.Outcomes.{Same, same}
 use Rattle.replies.proofs.ok.Reads as ok
 use Rattle.replies.proofs.ok.Kinds as ok-kinds
 use Rattle.replies.proofs.clock.Reads as clock
@@ -9,6 +10,10 @@ use Rattle.replies.proofs.modulator.Reads as modulator
 use Rattle.replies.proofs.modulator.Kinds as modulator-kinds
 use Rattle.replies.proofs.frame.Reads as frame
 use Rattle.replies.proofs.frame.Kinds as frame-kinds
+use Rattle.replies.proofs.show.Reads as show
+use Rattle.replies.proofs.show.Kinds as show-kinds
+use Rattle.replies.proofs.report.Reads as report
+use Rattle.replies.proofs.report.Kinds as report-kinds
 
 pub one-ok : Same 1 ok-kinds.ps ok-kinds.r ok.Post (λ κs s. now (s .0))
 one-ok κs a x y s t = same
@@ -21,3 +26,10 @@ one-modulator κs a x y s t = same
 
 pub one-frame : Same 1 frame-kinds.ps frame-kinds.r frame.Post (λ κs s. now (s .0))
 one-frame κs a x y s t = same
+
+-- what `show` leaves in the text
+pub one-show : Same 1 show-kinds.ps show-kinds.r show.Post (λ κs s. now (s .0))
+one-show κs a x y s t e f = (refl, e ∙ sym f)
+
+pub one-report : Same 2 report-kinds.ps report-kinds.r report.Post (λ κs s. now (s .0))
+one-report κs a x y s t = same

@@ -1,10 +1,14 @@
 -- The station's answers, as docs/BENCH.md has them: the pieces of each answer's text. Assumes nothing.
 use Prim.Native.Nat.{ℕ, _+_}
-use mathlib.Core.Bool.{Bool, true, false, cond}
+use mathlib.Core.Bool.{cond}
 use mathlib.Core.List.{List, [], _∷_, _++_}
 use Rattle.tables.specs.declared.Key.{Key}
 use Rattle.clocks.specs.declared.clock.Reported.{Reported}
-use Rattle.answers.specs.Answers.{blank, numberText, flagText, floatText, idText, speedText, timeText, refusedText}
+use lib.Dec.{eqb}
+use Rattle.report.specs.declared.Filled.{Filled}
+use Rattle.report.specs.declared.Filled.the-variants as report
+use Rattle.answers.specs.Answers.{blank, idText, speedText, timeText, refusedText}
+use Rattle.digits.specs.Digits.{numberText, flagText, floatText}
 use Rattle.commands.specs.declared.clock_command.ClockAnswer.{ClockAnswer}
 use Rattle.commands.specs.declared.clock_command.ClockAnswer.the-variants as clock
 use Rattle.commands.specs.declared.modulator_command.ModulatorAnswer.{ModulatorAnswer}
@@ -42,15 +46,24 @@ abbrev pub dash : List ℕ
 dash = 0x2d ∷ []
 
 -- "` SLOT=N` (the tick reported) or ` SLOT=-` (none)"
-abbrev pub reportText : ℕ → Reported → List (List ℕ)
-reportText slot r = blank ∷ numberText slot ∷ equalsSign ∷ cond (r .told) (numberText (r .tick)) dash ∷ []
+abbrev pub tickText : ℕ → Reported → List (List ℕ)
+tickText slot r = blank ∷ numberText slot ∷ equalsSign ∷ cond (r .told) (numberText (r .tick)) dash ∷ []
 
 -- "for each living clock in slot order", from slot i on
-unfoldable pub reportsText : ℕ → List Key → List Reported → List (List ℕ)
-reportsText i [] rs = []
-reportsText i (k ∷ ks) [] = []
-reportsText i (k ∷ ks) (r ∷ rs) = cond (k .used) (reportText i r) [] ++ reportsText (i + 1) ks rs
+unfoldable pub ticksText : ℕ → List Key → List Reported → List (List ℕ)
+ticksText i [] rs = []
+ticksText i (k ∷ ks) [] = []
+ticksText i (k ∷ ks) (r ∷ rs) = cond (k .used) (tickText i r) [] ++ ticksText (i + 1) ks rs
 
 -- "`frame`, then" the reports
 abbrev pub frameText : List Key → List Reported → List (List ℕ)
-frameText ks rs = (0x66 ∷ 0x72 ∷ 0x61 ∷ 0x6d ∷ 0x65 ∷ []) ∷ reportsText 0 ks rs
+frameText ks rs = (0x66 ∷ 0x72 ∷ 0x61 ∷ 0x6d ∷ 0x65 ∷ []) ∷ ticksText 0 ks rs
+
+-- "every LF shown as `;`"
+abbrev pub shownOf : ℕ → ℕ
+shownOf b = cond (eqb b 0x0a) 0x3b b
+
+-- "the whole buffer", or "`refused N`, a blank, and the buffer as it is then"
+abbrev pub reportedText : Filled → List ℕ → List (List ℕ)
+reportedText (report.Written n) buffer = buffer ∷ []
+reportedText (report.Refused n) buffer = refusedText n ++ (blank ∷ buffer ∷ [])

@@ -1,8 +1,8 @@
 // The state that the program holds: a station, and 16 parameters of each kind.
-use holds::Floats;
-use holds::Speeds;
-use holds::no_floats;
-use holds::no_speeds;
+use holds::floats::Floats;
+use holds::floats::no_floats;
+use holds::speeds::Speeds;
+use holds::speeds::no_speeds;
 use station::station::Station;
 use station::station::fresh;
 

@@ -1,4 +1,5 @@
-// The program's own part: the state that it holds, and what an ask does to it. Proved safe, with no
+// The program's own part: the state that it holds, and what a line does to it. Proved safe, with no
 // equations: docs/EXCEPTIONS.md says why.
-pub mod act;
+pub mod answer;
 pub mod held;
+mod parts;

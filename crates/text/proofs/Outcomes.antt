@@ -1,5 +1,4 @@
 -- Any two outcomes that a statement allows coincide (`Rattle.doubles.proofs.Outcomes` has the law). Of `part`, which answers a part of the caller's slice, the bytes coincide. Assumes nothing.
-use Prim.Native.Nat.{ℕ}
 use mathlib.Core.Path.{_≡_}
 use contract.Lifetimes.{Lfts}
 use denote.Ref.{now}

@@ -14,9 +14,11 @@ use lib.Ieee.Scale.{finite}
 use lib.Ieee.Positive.{num, den, den-pos, between, through}
 use borrow.Author.Tests.{not-false}
 use Rattle.doubles.specs.Doubles.{zeroF, oneF, finiteOf}
-use Rattle.doubles.proofs.Unit.{none, Between, InUnit, le-trans, le-same, le-of-not-lt, between-finite, between-wider, between-of-upto, finite-is, on-of-between, size-of-between, mul-mono}
+use Rattle.doubles.specs.Intervals.{Between, InUnit}
+use Rattle.doubles.proofs.Unit.{none, le-trans, le-same, le-of-not-lt, between-finite, between-wider, between-of-upto, finite-is, on-of-between, size-of-between, mul-mono}
 use Rattle.doubles.proofs.Ranges.{lerp-range, lerp-above, steady-27}
 use Rattle.doubles.proofs.Quotients.{div-mono, divisor-positive}
+use Rattle.times.specs.RunningSpeeds.{Runs, Above, Running, Reachable, numberOf}
 use Rattle.times.specs.Speeds.{sixtyF, sptOf, tpsOf, tpmOf, readInOf, interpolateOf, interpolateSpeedOf, inRange, badSpeed, badReading}
 use Rattle.times.specs.declared.clock_speed.ClockSpeed.{ClockSpeed}
 use Rattle.times.specs.declared.clock_speed.ClockSpeed.the-variants.{SecondsPerTick, TicksPerSecond, TicksPerMinute}
@@ -30,30 +32,6 @@ smallest = fin false 1 (negsuc 19)
 
 abbrev largest : Float
 largest = fin false 1 (pos 27)
-
--- a double of the format, in a range up to 2 ^ 27
-abbrev pub Runs : Float → Float → Type 0
-Runs lo x = T (fits binary64 x) × Between lo x (fin false 1 (pos 27))
-
--- seconds per tick from lo on, ticks per second or per minute from zero on (-0.0 too)
-abbrev pub Above : Float → ClockSpeed → Type 0
-Above lo (SecondsPerTick x) = Runs lo x
-Above lo (TicksPerSecond x) = Runs zeroF x
-Above lo (TicksPerMinute x) = Runs zeroF x
-
--- from 2 ^ -27 on
-abbrev pub Running : ClockSpeed → Type 0
-Running s = Above (fin false 1 (negsuc 26)) s
-
--- from 2 ^ -21 on: the speeds that a tween may go towards
-abbrev pub Reachable : ClockSpeed → Type 0
-Reachable s = Above (fin false 1 (negsuc 20)) s
-
--- a speed's number
-abbrev pub numberOf : ClockSpeed → Float
-numberOf (SecondsPerTick x) = x
-numberOf (TicksPerSecond x) = x
-numberOf (TicksPerMinute x) = x
 
 -- x in a speed's unit
 abbrev pub like : ClockSpeed → Float → ClockSpeed

@@ -1,6 +1,6 @@
 -- Durations and delays are whole nanoseconds. `fin s m e` is m * up e / down e in size, and `closest a b` the whole number nearest to a / b, a tie to the even one. Assumes nothing.
 use Prim.Native.Nat.{ℕ, _*_, _/_, _%_}
-use mathlib.Core.Bool.{Bool, true, false, cond}
+use mathlib.Core.Bool.{true, false, cond}
 use lib.IntN.{pos}
 use lib.Dec.{ltb}
 use lib.Ieee.{Float, nan, inf, fin, binary64, up, down, add, div, ofInt}

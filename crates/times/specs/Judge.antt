@@ -1,6 +1,6 @@
 -- Document 01, "Refusal numbers": what is wrong with each kind of argument, and which number is given. Assumes nothing.
 use Prim.Native.Nat.{ℕ}
-use mathlib.Core.Bool.{Bool, true, false, not, _||_, cond}
+use mathlib.Core.Bool.{Bool, false, not, _||_, cond}
 use mathlib.Core.List.{List, [], _∷_}
 use lib.IntN.{pos}
 use lib.Dec.{ltb, eqb}

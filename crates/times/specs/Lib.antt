@@ -4,3 +4,4 @@ pub mod Durations
 pub mod Speeds
 pub mod Times
 pub mod Starts
+pub mod RunningSpeeds

@@ -1,5 +1,5 @@
 -- Document 01, "tween/tweenable.rs" and "Speeds". Assumes nothing.
-use mathlib.Core.Bool.{Bool, true, false, not, _&&_, _||_}
+use mathlib.Core.Bool.{Bool, false, not, _&&_, _||_}
 use lib.IntN.{pos, negsuc}
 use lib.Ieee.{Float, fin, binary64, add, sub, mul, div, lt, le, eq}
 use Rattle.doubles.specs.Doubles.{finiteOf, zeroF, oneF}

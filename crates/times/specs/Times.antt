@@ -1,6 +1,6 @@
 -- Document 01, "clock/time.rs". A time is its clock, whole ticks and a fraction. Nothing here calls itself. Assumes nothing.
 use Prim.Native.Nat.{ℕ, _+_, _-_, _^_, compare, Ordering, Ordering·lt, Ordering·eq, Ordering·gt}
-use mathlib.Core.Bool.{Bool, true, false, _&&_, cond}
+use mathlib.Core.Bool.{_&&_, cond}
 use lib.Dec.{ltb, eqb}
 use lib.Ieee.{Float, binary64, add, sub, neg, rem, lt, eq, toUnsigned}
 use Rattle.doubles.specs.Doubles.{signOf, wholeOf, fractOf, ceilOf, zeroF, oneF}

@@ -9,14 +9,16 @@ use lib.Ieee.{Float, nan, inf, fin, binary64, isNan, sub, mul, div, lt, le, eq, 
 use lib.Ieee.Scale.{finite}
 use borrow.Author.Tests.{not-false}
 use Rattle.doubles.specs.Doubles.{oneF, twoF, absOf}
-use Rattle.doubles.proofs.Unit.{InUnit, le-of-not-lt, clamp-unit, complement-unit, powers-unit, twice-low, twice-high, low-half, high-half}
+use Rattle.doubles.specs.Intervals.{InUnit}
+use Rattle.doubles.proofs.Unit.{le-of-not-lt, clamp-unit, complement-unit, powers-unit, twice-low, twice-high, low-half, high-half}
 use Rattle.doubles.proofs.Quotients.{quotient-is}
 use Rattle.times.specs.Judge.{noFaults, badFloat}
 use Rattle.times.specs.Speeds.{readInOf, badSpeed}
 use Rattle.times.specs.declared.judge.Faults.{Faults}
 use Rattle.times.specs.declared.clock_speed.ClockSpeed.{ClockSpeed}
 use Rattle.times.specs.declared.clock_speed.ClockSpeed.the-variants.{SecondsPerTick, TicksPerSecond, TicksPerMinute}
-use Rattle.times.proofs.Rates.{Running, Reachable, numberOf, like, neither, accepted-above, above-wider, interpolated-reachable}
+use Rattle.times.specs.RunningSpeeds.{Running, Reachable, numberOf}
+use Rattle.times.proofs.Rates.{like, neither, accepted-above, above-wider, interpolated-reachable}
 use Rattle.tweens.specs.Easings.{powerOf, inOutAt, inOutOf, applyOf}
 use Rattle.tweens.specs.Values.{amountOf, mapSpeedOf, unitOf, speedMapFaults}
 use Rattle.tweens.specs.declared.value.SpeedMapping.{SpeedMapping}

@@ -1,9 +1,8 @@
 -- Document 01, "tween.rs". Assumes nothing.
 use Prim.Native.Nat.{ℕ, zero, suc}
-use mathlib.Core.Bool.{Bool, true, false, _||_, cond}
-use lib.IntN.{pos, negsuc}
+use mathlib.Core.Bool.{Bool, false, _||_, cond}
 use lib.Dec.{ltb}
-use lib.Ieee.{Float, fin, binary64, add, sub, mul, div, lt}
+use lib.Ieee.{Float, binary64, add, sub, mul, div, lt}
 use Rattle.doubles.specs.Doubles.{oneF, twoF, halfF}
 use Rattle.times.specs.Answer.{Answer, accepted}
 use Rattle.times.specs.Judge.{bothFaults, floatFaults, spanFaults, judged}

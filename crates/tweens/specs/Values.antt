@@ -1,6 +1,6 @@
 -- Document 01, "value.rs", for f64 and for speeds. Assumes nothing.
 use Prim.Native.Nat.{ℕ}
-use mathlib.Core.Bool.{Bool, true, false, not, _||_}
+use mathlib.Core.Bool.{false, not, _||_}
 use lib.Dec.{eqb}
 use lib.Ieee.{Float, binary64, add, sub, mul, div, rem, neg, eq}
 use Rattle.doubles.specs.Doubles.{clampOf}

@@ -1,7 +1,7 @@
 // Waveforms, as modulator/lfo.rs has them. The sine is absent until asked for.
 ghost use mathlib.Core.Path.{_≡_};
 ghost use Rattle.times.specs.Answer.{toldFloat};
-ghost use Rattle.tweens.specs.Waves.{triangleOf, sawOf, pulseOf, waveValueOf, waveFaults, waveOf};
+ghost use Rattle.tweens.specs.Waves.{pulseOf, waveValueOf, waveFaults, waveOf};
 use times::judge::Faults;
 use times::judge::Floated;
 use times::judge::both;

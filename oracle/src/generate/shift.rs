@@ -256,13 +256,14 @@ impl Shift {
     }
 
     fn read(&mut self, random: &mut Random) {
-        let form = match random.below(9) {
+        let form = match random.below(11) {
             0 | 1 => format!("clock.time {}", self.clock(random)),
             2 => format!("clock.getspeed {}", self.clock(random)),
             3 => format!("clock.ticking {}", self.clock(random)),
             4 | 5 => format!("mod.value {}", self.modulator(random)),
             6 => format!("when {} TICKS FRACTION", self.clock(random)),
             7 => format!("val.raw {}", self.float_value(random)),
+            8 | 9 => format!("clock.report {} LENGTH", self.clock(random)),
             _ => format!("sval.raw {}", self.speed_value(random)),
         };
         self.say(&form, random);

@@ -141,6 +141,7 @@ pub(super) fn family(powers: u64) -> Family {
     let grammar = Grammar { powers, near: true };
     let mut limits = texts(&ROWS);
     limits.extend(full_table());
+    limits.extend(reports());
     let forms = FORMS.iter().map(|(_, form)| grammar.limits(form));
     for part in forms.collect::<Vec<_>>().concat().chunks(LIMITS_TOGETHER) {
         limits.extend(texts(&SETUP));
@@ -154,6 +155,25 @@ pub(super) fn family(powers: u64) -> Family {
         limits,
         random: Box::new(move |random| line(grammar, random)),
     }
+}
+
+/// Document 01's own report, and the longest: the last slot, the last generation, the last tick.
+fn reports() -> Vec<String> {
+    let add = "clock.add fix tps 3ff0000000000000";
+    let mut lines = texts(&["new", "clock.gen 15:4294967294"]);
+    lines.extend(texts(&[add; 16]));
+    for (clock, ticks, fraction) in [
+        ("2:1", 3, "3fe0000000000000"),
+        ("15:4294967295", u64::MAX, "3fefffffffffffff"),
+    ] {
+        lines.push(format!("clock.report {clock} 96"));
+        lines.push(format!("clock.start {clock}"));
+        lines.push(format!("clock.preset {clock} {ticks} {fraction}"));
+        for length in [95, 96, 97, 256] {
+            lines.push(format!("clock.report {clock} {length}"));
+        }
+    }
+    lines
 }
 
 /// Seventeen clocks and modulators, one removed, and one more.

@@ -1,8 +1,9 @@
 -- `answers::speeded` is proved: the speed and the line's end, or the refusal. Assumes nothing.
 use mathlib.Core.Path.{_∙_}
-use Rattle.answers.specs.Answers.{place, speedText}
+use Rattle.answers.specs.Answers.{speedText}
+use Rattle.digits.specs.Puts.{place}
 use denote.Ref.{now}
-use Rattle.answers.proofs.Pieces.{line}
+use Rattle.digits.proofs.Pieces.{line}
 use Rattle.answers.proofs.speeded.Statement.{statement}
 use Rattle.answers.proofs.speeded.Tie as tie
 

@@ -30,8 +30,8 @@ heard-requires c κs = search needs
 enum-known-written : tie.Need-enum-known-written Inv-loop μ-loop
 enum-known-written c = search needs
 
-enum-known-ask : tie.Need-enum-known-ask Inv-loop μ-loop
-enum-known-ask c = search needs
+enum-known-name : tie.Need-enum-known-name Inv-loop μ-loop
+enum-known-name c = search needs
 
 asked-requires : tie.Need-asked-requires Inv-loop μ-loop
 asked-requires c κs = search needs
@@ -66,7 +66,7 @@ feed-spec =
     returns
     heard-requires
     enum-known-written
-    enum-known-ask
+    enum-known-name
     asked-requires
     same-length-2
     returns-2

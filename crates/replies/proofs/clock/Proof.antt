@@ -1,8 +1,9 @@
 -- `replies::clock` is proved: each kind of answer has its line. Assumes nothing.
 use denote.Ref.{now}
 use mathlib.Core.Path.{_∙_}
-use Rattle.answers.specs.Answers.{place, speedText}
-use Rattle.answers.proofs.Pieces.{line}
+use Rattle.answers.specs.Answers.{speedText}
+use Rattle.digits.specs.Puts.{place}
+use Rattle.digits.proofs.Pieces.{line}
 use Rattle.replies.proofs.clock.Statement.{statement}
 use Rattle.replies.proofs.clock.Tie as tie
 

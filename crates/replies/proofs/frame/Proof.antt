@@ -4,8 +4,8 @@ use native.Mathlib.Omega.{arith}
 use mathlib.Core.Path.{_≡_, refl, ap, _∙_}
 use mathlib.Core.Logic.{⊎-elim}
 use lib.ListN.{length}
-use Rattle.answers.specs.Answers.{Put, place, putAll, lineOf}
-use Rattle.replies.specs.Replies.{reportsText}
+use Rattle.digits.specs.Puts.{Put, place, putAll, lineOf}
+use Rattle.replies.specs.Replies.{ticksText}
 use Rattle.replies.proofs.Slots.{Left, put-one, put-none, none-left}
 use Rattle.replies.proofs.frame.Statement.{statement}
 use Rattle.replies.proofs.frame.Tie as tie
@@ -57,7 +57,7 @@ returns c =
     let start = at .before .before .before .before .before .before .before in
     let keys : length (start .args .t2) ≡ 16 = start .good .1 .0 .1 .0 .1 in
     none-left _ _ _ _ _ (omega arith) (c .before .before .end .ensures) (at .loop .inv .2)
-    ∙ ap (λ (p : Put). putAll p (lineOf (reportsText 0 (start .args .t2) (start .args .t3)))) (at .before .before .before .put .ensures)
+    ∙ ap (λ (p : Put). putAll p (lineOf (ticksText 0 (start .args .t2) (start .args .t3)))) (at .before .before .before .put .ensures)
 
 pub frame-spec : {M : Type 1} → statement M
 frame-spec =

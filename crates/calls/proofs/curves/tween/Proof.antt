@@ -1,7 +1,7 @@
 -- `curves::tween` is proved: the tween's pieces are put one after the other. Assumes nothing.
 use mathlib.Core.Path.{refl, _∙_}
 use denote.Ref.{now}
-use Rattle.answers.specs.Answers.{place}
+use Rattle.digits.specs.Puts.{place}
 use Rattle.calls.proofs.Replies.{tween-put}
 use Rattle.calls.proofs.curves.tween.Statement.{statement}
 use Rattle.calls.proofs.curves.tween.Tie as tie

@@ -1,0 +1,84 @@
+-- Document 01, "A clock's report, whole, each line ended by LF, at the buffer's start; later bytes keep what they held". Assumes nothing.
+use Prim.Native.Nat.{ℕ}
+use mathlib.Core.Bool.{Bool, not, cond}
+use mathlib.Core.List.{List, [], _∷_, _++_}
+use lib.Dec.{ltb}
+use lib.ListN.{length, drop}
+use Rattle.digits.specs.Digits.{numberText, flagText, floatText}
+use Rattle.digits.specs.Puts.{whole, lineEnd}
+use Rattle.ticks.specs.declared.Position.{Position}
+use Rattle.times.specs.Answer.{Answer, accepted, refused}
+use Rattle.times.specs.declared.time.ClockId.{ClockId}
+use Rattle.clocks.specs.OneClock.{positionOf, freshOf}
+use Rattle.clocks.specs.ClockTables.{whereIs, readFound}
+use Rattle.clocks.specs.declared.clock.Clock.{Clock}
+use Rattle.clocks.specs.declared.clocks.Clocks.{Clocks}
+use Rattle.report.specs.declared.Filled.{Filled}
+use Rattle.report.specs.declared.Filled.the-variants.{Written, Refused}
+
+-- ---- the text
+
+-- "slot=", "gen=", "ticking=", "started=", "ticks=", "fraction="
+abbrev pub slotWord : List ℕ
+slotWord = 0x73 ∷ 0x6c ∷ 0x6f ∷ 0x74 ∷ 0x3d ∷ []
+
+abbrev pub genWord : List ℕ
+genWord = 0x67 ∷ 0x65 ∷ 0x6e ∷ 0x3d ∷ []
+
+abbrev pub tickingWord : List ℕ
+tickingWord = 0x74 ∷ 0x69 ∷ 0x63 ∷ 0x6b ∷ 0x69 ∷ 0x6e ∷ 0x67 ∷ 0x3d ∷ []
+
+abbrev pub startedWord : List ℕ
+startedWord = 0x73 ∷ 0x74 ∷ 0x61 ∷ 0x72 ∷ 0x74 ∷ 0x65 ∷ 0x64 ∷ 0x3d ∷ []
+
+abbrev pub ticksWord : List ℕ
+ticksWord = 0x74 ∷ 0x69 ∷ 0x63 ∷ 0x6b ∷ 0x73 ∷ 0x3d ∷ []
+
+abbrev pub fractionWord : List ℕ
+fractionWord = 0x66 ∷ 0x72 ∷ 0x61 ∷ 0x63 ∷ 0x74 ∷ 0x69 ∷ 0x6f ∷ 0x6e ∷ 0x3d ∷ []
+
+-- a line: its name, what it tells, and LF
+abbrev pub field : List ℕ → List ℕ → List (List ℕ)
+field name told = name ∷ told ∷ lineEnd ∷ []
+
+abbrev pub reportLines : ClockId → Bool → Bool → Position → List (List ℕ)
+reportLines id ticking started p =
+    field slotWord (numberText (id .slot))
+    ++ field genWord (numberText (id .generation))
+    ++ field tickingWord (flagText ticking)
+    ++ field startedWord (flagText started)
+    ++ field ticksWord (numberText (p .ticks))
+    ++ field fractionWord (floatText (p .fraction))
+
+-- of the clock with that id; "A clock not started reads (0, 0.0)"
+abbrev pub reportText : ClockId → Clock → List ℕ
+reportText id c = whole (reportLines id (c .ticking) (not (freshOf (c .state))) (positionOf (c .state)))
+
+-- ---- the answer, and the buffer at exit
+
+pub record Outcome : Type 0 where
+  pub answer : Answer ℕ
+  pub out : List ℕ
+
+abbrev pub toldReport : Filled → Answer ℕ
+toldReport (Written n) = accepted n
+toldReport (Refused n) = refused n
+
+abbrev pub reported : Filled → List ℕ → Outcome
+reported r out = record { answer = toldReport r; out = out }
+
+-- "the state, value or buffer given in comes back unchanged"
+abbrev pub unchanged : ℕ → List ℕ → Outcome
+unchanged n out = record { answer = refused n; out = out }
+
+-- "at the buffer's start; later bytes keep what they held"
+abbrev pub atStart : List ℕ → List ℕ → Outcome
+atStart text out = record { answer = accepted (length text); out = text ++ drop (length text) out }
+
+-- NO_SUCH: "the id names no living entry"; then BUFFER: "report buffer under 96 bytes"
+abbrev pub intoBuffer : List ℕ → Answer (List ℕ) → Outcome
+intoBuffer out (refused n) = unchanged n out
+intoBuffer out (accepted text) = cond (ltb (length out) 96) (unchanged 11 out) (atStart text out)
+
+unfoldable pub reportOf : Clocks → ClockId → List ℕ → Outcome
+reportOf t id out = intoBuffer out (readFound t (whereIs t id) (reportText id))

@@ -1,0 +1,85 @@
+// A clock's report: six lines of text at the start of a buffer that the caller lends (document 01, "Worked
+// rows"). A refusal leaves the buffer as it was.
+ghost use mathlib.Core.Path.{_≡_};
+ghost use mathlib.Core.Bool.{not};
+ghost use Rattle.clocks.specs.OneClock.{freshOf};
+ghost use Rattle.digits.specs.Digits.{numberText, flagText, floatText};
+ghost use Rattle.digits.specs.Puts.{place, putAll};
+ghost use Rattle.report.specs.Reports.{field, reportLines, reportOf, reported};
+use clocks::clock::ClockState;
+use clocks::clock::position;
+use clocks::clocks::Clocks;
+use tables::Found;
+use tables::NO_SUCH;
+use tables::find;
+use ticks::Position;
+use times::time::ClockId;
+
+pub const BUFFER: u32 = 11;
+
+// The longest report, and so the least buffer.
+const LONGEST: usize = 96;
+
+// How many bytes were written, or the number of a refusal.
+pub enum Filled {
+    Written(usize),
+    Refused(u32),
+}
+
+fn number_line(out: &mut [u8], at: usize, name: &[u8], n: u64) -> usize
+    ensures { λ r. ⌜ place (now (out .exit)) r ≡ putAll (place (now (out .entry)) at) (field (now (name .entry)) (numberText n)) ⌝ }
+{
+    let behind = digits::counted(out, at, name, n);
+    digits::end(out, behind)
+}
+
+fn flag_line(out: &mut [u8], at: usize, name: &[u8], b: bool) -> usize
+    ensures { λ r. ⌜ place (now (out .exit)) r ≡ putAll (place (now (out .entry)) at) (field (now (name .entry)) (flagText b)) ⌝ }
+{
+    let behind = digits::flagged(out, at, name, b);
+    digits::end(out, behind)
+}
+
+fn float_line(out: &mut [u8], at: usize, name: &[u8], x: f64) -> usize
+    ensures { λ r. ⌜ place (now (out .exit)) r ≡ putAll (place (now (out .entry)) at) (field (now (name .entry)) (floatText x)) ⌝ }
+{
+    let behind = digits::named(out, at, name, x);
+    digits::end(out, behind)
+}
+
+fn started(state: ClockState) -> bool
+    ensures { λ r. ⌜ r ≡ not (freshOf state) ⌝ }
+{
+    match state {
+        ClockState::NotStarted => false,
+        ClockState::Started(_) => true,
+    }
+}
+
+// The six lines, from the buffer's start.
+fn lines(out: &mut [u8], id: ClockId, ticking: bool, started: bool, p: Position) -> usize
+    ensures { λ r. ⌜ place (now (out .exit)) r ≡ putAll (place (now (out .entry)) 0) (reportLines id ticking started p) ⌝ }
+{
+    let a = number_line(out, 0, b"slot=", id.slot as u64);
+    let b = number_line(out, a, b"gen=", id.generation as u64);
+    let c = flag_line(out, b, b"ticking=", ticking);
+    let d = flag_line(out, c, b"started=", started);
+    let e = number_line(out, d, b"ticks=", p.ticks);
+    float_line(out, e, b"fraction=", p.fraction)
+}
+
+pub fn report(t: Clocks, id: ClockId, out: &mut [u8]) -> Filled
+    ensures { λ r. ⌜ reported r (now (out .exit)) ≡ reportOf t id (now (out .entry)) ⌝ }
+{
+    let keys = t.keys;
+    let Found::At(i) = find(keys, id.slot, id.generation) else {
+        return Filled::Refused(NO_SUCH);
+    };
+    if out.len() < LONGEST {
+        return Filled::Refused(BUFFER);
+    }
+    let c = t.clocks[i];
+    let state = c.state;
+    let n = lines(out, id, c.ticking, started(state), position(state));
+    Filled::Written(n)
+}
