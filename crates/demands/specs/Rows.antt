@@ -6,7 +6,7 @@ use lib.Dec.{T, eqb}
 use lib.Ieee.{Float, binary64, ofBits, toBits, add, sub, mul, div, rem, lt, le, eq, toUnsigned, ofInt}
 use Rattle.times.specs.Answer.{Answer, accepted, refused}
 use Rattle.times.specs.Judge.{firstFault}
-use Rattle.times.specs.Speeds.{asTpsOf, interpolateSpeedOf}
+use Rattle.times.specs.Speeds.{asTpsOf}
 use Rattle.times.specs.Durations.{nanosOf, secondsOf}
 use Rattle.times.specs.Times.{fromFloatOf, addFloatOf, subFloatOf, laterOf, earlierOf}
 use Rattle.times.specs.declared.time.ClockId.{ClockId}
@@ -18,7 +18,6 @@ use Rattle.tweens.specs.Easings.{easeOf, applyOf, inOutOf, powerOf, tweenValueO
 use Rattle.tweens.specs.Values.{mapFOf, mapFloatOf, amountOf}
 use Rattle.tweens.specs.Waves.{waveOf, waveValueOf}
 use Rattle.tweens.specs.declared.tween.Easing.the-variants.{Linear, InOutPowi}
-use Rattle.tweens.specs.declared.value.FloatMapping.{FloatMapping}
 use Rattle.tweens.specs.declared.value.FloatValue.the-variants as fixed
 use Rattle.tweens.specs.declared.value.SpeedValue.the-variants as speed
 use Rattle.tweens.specs.declared.value.Input.the-variants as input
@@ -39,7 +38,7 @@ use Rattle.station.specs.Frames.{modulatorTurns, modulatorsTurned, clockTurns, 
 use Rattle.station.specs.declared.station.Station.{Station}
 use Rattle.commands.specs.ClockCommands.{runClockOf}
 use Rattle.commands.specs.declared.clock_command.ClockCommand.the-variants.{Add, Start}
-use Rattle.laws.specs.Calls.{Call, clock, frame, after, afterAll}
+use Rattle.laws.specs.Calls.{clock, frame, after, afterAll}
 
 -- what is computed, and what 01 says, as numbers: 0 (OK) and the values, or a refusal's number alone
 pub record Row : Type 0 where

@@ -1,4 +1,4 @@
--- Laws that the crates above cite: `Accepted` on what a call without faults was given, `Underway` on tweens, `Speeds` and `Floats` on parameters of both kinds, `Signed` on mixes of doubles of both signs, `Waves` on phases and waves, `Clear` on fractions without a minus sign, `ClocksKept` and `ModulatorsKept` on the two tables, `Reached` on every station that calls can reach, `Refusals` on what a refusal leaves, `Lives` on ids over runs of calls, `Apart` on entries that a call does not act on. `Every` and `Deeds` have what the last six share.
+-- Laws that the crates above cite: `Accepted` on what a call without faults was given, `Underway` on tweens, `Speeds` and `Floats` on parameters of both kinds, `Signed` on mixes of doubles of both signs, `Waves` on phases and waves, `Clear` on fractions without a minus sign, `ClocksKept` and `ModulatorsKept` on the two tables, `Reached` on every station that calls can reach, `Refusals` on what a refusal leaves, `Lives` on ids over runs of calls, `Apart` on entries that a call does not act on, `Entries` on what stands under an id, `OneClock` and `OneTurn` on what a command and a frame make of one clock, `Sizes` on the 16 slots. `Every` and `Deeds` have what those from `ClocksKept` on share.
 pub mod Accepted
 pub mod Underway
 pub mod Speeds
@@ -12,5 +12,9 @@ pub mod Reached
 pub mod Refusals
 pub mod Lives
 pub mod Apart
+pub mod Entries
+pub mod OneClock
+pub mod OneTurn
+pub mod Sizes
 mod Every
 mod Deeds

@@ -1,0 +1,34 @@
+-- Demand 1: what a refusal hands back, in one theorem over every call. Assumes nothing.
+use Prim.Native.Nat.{ℕ}
+use mathlib.Core.Path.{_≡_, refl, ap}
+use mathlib.Core.Bool.{Bool, true, false, cond}
+use mathlib.Core.List.{List}
+use lib.Dec.{ltb}
+use lib.ListN.{length}
+use Rattle.times.specs.Answer.{Answer, accepted, refused}
+use Rattle.clocks.specs.ClockTables.{readFound, whereIs}
+use Rattle.info.specs.ParametersIn.{floatDueOf, floatSourceOf, updateFloatIn, speedDueOf, speedSourceOf, updateSpeedIn}
+use Rattle.station.specs.Stations.{infoIn}
+use Rattle.report.specs.Reports.{unchanged as asItWas, atStart, intoBuffer, reportText, reportOf}
+use Rattle.laws.proofs.Refusals.{refused-leaves, float-change-leaves, float-advance-leaves, speed-change-leaves, speed-advance-leaves}
+use Rattle.demands.specs.Entries.{Lent, Entry, onStation, setFloat, setSpeed, updateFloat, updateSpeed, report, numberTold, numberGiven, withStation, withFloat, withSpeed, withBuffer, handedBack}
+
+-- a report writes nothing, or is not refused
+unwritten : (out : List ℕ) (a : Answer (List ℕ)) → (numberTold (intoBuffer out a .answer) ≡ 0 → ⊥) → intoBuffer out a .out ≡ out
+unwritten out (refused n) h = refl
+unwritten out (accepted text) h = go (ltb (length out) 96) h
+  where
+    go : (b : Bool) → (numberTold (cond b (asItWas 11 out) (atStart text out) .answer) ≡ 0 → ⊥) → cond b (asItWas 11 out) (atStart text out) .out ≡ out
+    go true h = refl
+    go false h = absurd (h refl)
+
+-- "A refusal returns its number, and the state, value or buffer given in comes back unchanged": whatever was lent, and whatever the number. It does not say which calls are refused, which `exactly` of `Exactly` does,
+-- nor what an accepted call hands back, which the entries' own definitions do.
+pub unchanged : (l : Lent) (e : Entry) → (numberGiven l e ≡ 0 → ⊥) → handedBack l e ≡ l
+unfolding updateFloatIn updateSpeedIn reportOf
+unchanged l (onStation c) h = ap (withStation l) (refused-leaves (l .station) c h)
+unchanged l (setFloat v w) h = ap (withFloat l) (float-change-leaves (l .float) v w h)
+unchanged l (setSpeed v w) h = ap (withSpeed l) (speed-change-leaves (l .speed) v w h)
+unchanged l (updateFloat dt) h = let i = infoIn (l .station) in ap (withFloat l) (float-advance-leaves (l .float) dt (floatDueOf i (l .float)) (floatSourceOf i (l .float)) h)
+unchanged l (updateSpeed dt) h = let i = infoIn (l .station) in ap (withSpeed l) (speed-advance-leaves (l .speed) dt (speedDueOf i (l .speed)) (speedSourceOf i (l .speed)) h)
+unchanged l (report id) h = let t = l .station .clocks in ap (withBuffer l) (unwritten (l .buffer) (readFound t (whereIs t id) (reportText id)) h)

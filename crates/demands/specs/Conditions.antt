@@ -1,0 +1,179 @@
+-- Demand 1: document 01's table of refusals. Which of its conditions hold of a call's arguments, each judged by itself, whatever else is wrong. Assumes nothing.
+use Prim.Native.Nat.{ℕ, zero, suc, _+_}
+use mathlib.Core.Bool.{Bool, true, false, not, _&&_, _||_, cond}
+use mathlib.Core.List.{List, [], _∷_}
+use lib.IntN.{pos}
+use lib.ListN.{length}
+use lib.Dec.{ltb}
+use lib.Ieee.{Float, fin, lt}
+use Rattle.tables.specs.Lists.{readAt}
+use Rattle.tables.specs.declared.Key.{Key}
+use Rattle.ticks.specs.WholeTicks.{takenOf}
+use Rattle.ticks.specs.declared.Taken.{Taken}
+use Rattle.ticks.specs.declared.Taken.the-variants as taken
+use Rattle.times.specs.Answer.{Answer, accepted, refused}
+use Rattle.times.specs.Judge.{noFaults, bothFaults, dtFaults, floatFaults}
+use Rattle.times.specs.declared.judge.Faults.{Faults}
+use Rattle.times.specs.declared.time.ClockId.{ClockId}
+use Rattle.tweens.specs.Easings.{tweenFaults}
+use Rattle.tweens.specs.Values.{floatValueFaults, speedValueFaults}
+use Rattle.tweens.specs.Waves.{waveFaults}
+use Rattle.tweens.specs.declared.tween.Tween.{Tween}
+use Rattle.tweens.specs.declared.value.ModulatorId.{ModulatorId}
+use Rattle.tweens.specs.declared.value.SpeedValue.{SpeedValue}
+use Rattle.parameters.specs.FloatParameters as floats
+use Rattle.parameters.specs.SpeedParameters as speeds
+use Rattle.parameters.specs.declared.speed_parameter.SpeedParameter.{SpeedParameter}
+use Rattle.info.specs.ParametersIn.{speedDueOf, speedSourceOf}
+use Rattle.info.specs.declared.info.Info.{Info}
+use Rattle.clocks.specs.OneClock.{positionOf, advanceOf, sumOf}
+use Rattle.clocks.specs.declared.clock.Clock.{Clock}
+use Rattle.clocks.specs.declared.clock.Reported.{Reported}
+use Rattle.modulator.specs.Tweeners.{tweenerFaults}
+use Rattle.modulator.specs.Lfos.{builderFaults}
+use Rattle.modulators.specs.declared.Modulator.{Modulator}
+use Rattle.modulators.specs.declared.Modulator.the-variants.{OfTweener, OfLfo}
+use Rattle.commands.specs.declared.clock_command.ClockCommand.{ClockCommand}
+use Rattle.commands.specs.declared.clock_command.ClockCommand.the-variants as clocks
+use Rattle.commands.specs.declared.modulator_command.ModulatorCommand.{ModulatorCommand}
+use Rattle.commands.specs.declared.modulator_command.ModulatorCommand.the-variants as modulators
+use Rattle.station.specs.Frames.{Try, went, stopped, noReports, seeing, watching, turned, clockTurn}
+use Rattle.station.specs.Stations.{infoIn}
+use Rattle.station.specs.declared.station.Station.{Station}
+use Rattle.laws.specs.Calls.{Call, clock, modulator, frame, ofClock, ofModulator, keysOf, lives}
+use Rattle.demands.specs.Entries.{Lent, Entry, onStation, setFloat, setSpeed, updateFloat, updateSpeed, report}
+use Rattle.demands.specs.Events.{clockIn}
+
+-- 7; 1 to 6; 8; 9; 10; 11. 12 belongs to a call that acts on no state
+pub record Conditions : Type 0 where
+  pub missing : Bool
+  pub faults : Faults
+  pub noRoom : Bool
+  pub tooFar : Bool
+  pub ticksFull : Bool
+  pub short : Bool
+
+-- ---- 7: "the id names no living entry, or a modulator of the other kind than the call acts on"
+
+abbrev pub noClock : Station → ClockId → Bool
+noClock st id = not (lives ofClock st (id .slot) (id .generation))
+
+abbrev pub noModulator : Station → ModulatorId → Bool
+noModulator st id = not (lives ofModulator st (id .slot) (id .generation))
+
+abbrev pub isTweener : Modulator → Bool
+isTweener (OfTweener t) = true
+isTweener (OfLfo l) = false
+
+abbrev pub isLfo : Modulator → Bool
+isLfo m = not (isTweener m)
+
+-- none of the kind that f tells
+abbrev pub noneOf : (Modulator → Bool) → Station → ModulatorId → Bool
+noneOf f st id = noModulator st id || not (readAt false (λ s. f (s .modulator)) (st .modulators .slots) (id .slot))
+
+-- ---- 8: "every slot is occupied or retired"
+
+-- "A slot freed at generation 4,294,967,295 is retired"
+abbrev pub takenOrRetired : Key → Bool
+takenOrRetired k = k .used || not (ltb (k .generation) 4294967295)
+
+unfoldable pub everyTaken : List Key → Bool
+everyTaken [] = true
+everyTaken (k ∷ ks) = takenOrRetired k && everyTaken ks
+
+-- ---- 9 and 10, of one clock in its turn by dt, with what it sees, as if dt were accepted
+
+-- its speed, which is updated first
+abbrev pub spedIn : Info → Clock → Float → SpeedParameter
+spedIn info c dt = speeds.updateOf (c .speed) dt (speedDueOf info (c .speed)) (speedSourceOf info (c .speed)) .parameter
+
+-- 9: "a ticking clock's advance exceeds 65,536"
+abbrev pub tooFarIn : Info → Clock → Float → Bool
+tooFarIn info c dt = c .ticking && lt (fin false 1 (pos 16)) (advanceOf (spedIn info c dt) dt)
+
+abbrev pub isFull : Taken → Bool
+isFull (taken.At p) = false
+isFull taken.Full = true
+
+-- 10: "ticks would pass 2^64 − 1"
+abbrev pub ticksFullIn : Info → Clock → Float → Bool
+ticksFullIn info c dt = c .ticking && isFull (takenOf (positionOf (c .state) .ticks) (sumOf (spedIn info c dt) (c .state) dt))
+
+-- "In a frame, the lowest clock slot with 9 or 10 decides": of the clock in slot i, where it is occupied, the clocks standing so
+abbrev pub slotIn : (Info → Clock → Float → Bool) → Info → Float → List Key → ℕ → List Clock → Bool
+slotIn f info dt keys i cs = readAt false (λ k. cond (k .used) (readAt false (λ c. f (watching info cs) c dt) cs i) false) keys i
+
+-- the slots behind it are asked only where its turn goes
+abbrev pub onward : (List Clock → List Reported → Bool) → Try → Bool
+onward g (went cs rs) = g cs rs
+onward g (stopped n) = false
+
+-- of n slots from slot i on
+unfoldable pub lowestIn : (Info → Clock → Float → Bool) → Info → Float → List Key → ℕ → ℕ → List Clock → List Reported → Bool
+lowestIn f info dt keys zero i cs rs = false
+lowestIn f info dt keys (suc n) i cs rs = slotIn f info dt keys i cs || onward (lowestIn f info dt keys n (i + 1)) (clockTurn info dt keys i cs rs)
+
+-- the clocks see every modulator's new value
+abbrev pub inFrame : (Info → Clock → Float → Bool) → Station → Float → Bool
+inFrame f st dt = lowestIn f (seeing (infoIn st) (turned (infoIn st) dt (st .modulators))) dt (st .clocks .keys) 16 0 (st .clocks .clocks) noReports
+
+-- ---- the conditions of a call
+
+-- a call on the entry of an id, with these faults
+abbrev pub ofId : Bool → Faults → Conditions
+ofId m f = record { missing = m; faults = f; noRoom = false; tooFar = false; ticksFull = false; short = false }
+
+-- an add into a table with these keys
+abbrev pub ofAdd : Faults → List Key → Conditions
+ofAdd f ks = record { missing = false; faults = f; noRoom = everyTaken ks; tooFar = false; ticksFull = false; short = false }
+
+-- a call that acts on no entry, with these faults
+abbrev pub ofArguments : Faults → Conditions
+ofArguments f = ofId false f
+
+-- "the present [..] speed" counts in a set; where there is no such clock, the arguments alone
+abbrev pub setFaultsOn : Answer Clock → SpeedValue → Tween → Faults
+setFaultsOn (accepted c) v w = speeds.setFaults (c .speed) v w
+setFaultsOn (refused n) v w = bothFaults (speedValueFaults v) (tweenFaults w)
+
+abbrev pub ofClocks : Station → ClockCommand → Conditions
+ofClocks st (clocks.Add v) = ofAdd (speedValueFaults v) (keysOf ofClock st)
+ofClocks st (clocks.Remove id) = ofId (noClock st id) noFaults
+ofClocks st (clocks.Start id) = ofId (noClock st id) noFaults
+ofClocks st (clocks.Stop id) = ofId (noClock st id) noFaults
+ofClocks st (clocks.Reset id) = ofId (noClock st id) noFaults
+ofClocks st (clocks.SetSpeed id v w) = ofId (noClock st id) (setFaultsOn (clockIn st id) v w)
+ofClocks st (clocks.Time id) = ofId (noClock st id) noFaults
+ofClocks st (clocks.Ticking id) = ofId (noClock st id) noFaults
+ofClocks st (clocks.Speed id) = ofId (noClock st id) noFaults
+
+abbrev pub ofModulators : Station → ModulatorCommand → Conditions
+ofModulators st (modulators.AddTweener x) = ofAdd (floatFaults x) (keysOf ofModulator st)
+ofModulators st (modulators.AddLfo b) = ofAdd (builderFaults b) (keysOf ofModulator st)
+ofModulators st (modulators.Remove id) = ofId (noModulator st id) noFaults
+ofModulators st (modulators.SetTweener id x w) = ofId (noneOf isTweener st id) (tweenerFaults x w)
+ofModulators st (modulators.SetParameter id p v w) = ofId (noneOf isLfo st id) (bothFaults (floatValueFaults v) (tweenFaults w))
+ofModulators st (modulators.SetWaveform id w) = ofId (noneOf isLfo st id) (waveFaults w)
+ofModulators st (modulators.SetPhase id x) = ofId (noneOf isLfo st id) (floatFaults x)
+ofModulators st (modulators.Value id) = ofId (noModulator st id) noFaults
+
+abbrev pub ofFrame : Station → Float → Conditions
+ofFrame st dt = record { missing = false; faults = dtFaults dt; noRoom = false; tooFar = inFrame tooFarIn st dt; ticksFull = inFrame ticksFullIn st dt; short = false }
+
+abbrev pub ofCall : Station → Call → Conditions
+ofCall st (clock c) = ofClocks st c
+ofCall st (modulator c) = ofModulators st c
+ofCall st (frame dt) = ofFrame st dt
+
+-- 11: "report buffer under 96 bytes"
+abbrev pub ofReport : Station → ClockId → List ℕ → Conditions
+ofReport st id out = record { missing = noClock st id; faults = noFaults; noRoom = false; tooFar = false; ticksFull = false; short = ltb (length out) 96 }
+
+abbrev pub conditionsOf : Lent → Entry → Conditions
+conditionsOf l (onStation c) = ofCall (l .station) c
+conditionsOf l (setFloat v w) = ofArguments (floats.setFaults (l .float) v w)
+conditionsOf l (setSpeed v w) = ofArguments (speeds.setFaults (l .speed) v w)
+conditionsOf l (updateFloat dt) = ofArguments (dtFaults dt)
+conditionsOf l (updateSpeed dt) = ofArguments (dtFaults dt)
+conditionsOf l (report id) = ofReport (l .station) id (l .buffer)
