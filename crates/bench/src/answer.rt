@@ -81,10 +81,16 @@ pub fn line(line: &[u8]) -> Heard {
     Heard::Answered(written(&out, n))
 }
 
-// Answers a line that asks the state.
-pub fn asked(line: &[u8], name: Word, st: State) -> Done {
+// Answers a line that asks the state: the first bytes of a buffer.
+pub fn asked(line: &[u8], count: usize, name: Word, st: State) -> Done {
+    if line.len() < count {
+        return Done {
+            open: error(),
+            state: st,
+        };
+    }
     let mut out = [0u8; 512];
-    let a = answer(line, name, &mut out, st);
+    let a = answer(&line[0..count], name, &mut out, st);
     let state = a.state;
     if a.n == 0 {
         return Done {

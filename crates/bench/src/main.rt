@@ -8,7 +8,6 @@ ghost use lib.ListN.{length};
 use crate::answer::Done;
 use crate::answer::Heard;
 use state::held::State;
-use text::Word;
 
 // The longest line, its LF not counted, and a count that stands for a longer one.
 const LONGEST: usize = 1024;
@@ -76,15 +75,12 @@ fn heard(line: &[u8], count: usize) -> Heard {
     answer::line(&line[0..count])
 }
 
-// Answers a whole line that asks the state.
-fn asked(line: &[u8], count: usize, name: Word, st: State) -> Done {
-    if line.len() < count {
-        return Done {
-            open: answer::error(),
-            state: st,
-        };
+// Answers a whole line.
+fn taken(line: &[u8], count: usize, st: State) -> Done {
+    match heard(line, count) {
+        Heard::Answered(open) => Done { open, state: st },
+        Heard::Asks(name) => answer::asked(line, count, name, st),
     }
-    answer::asked(&line[0..count], name, st)
 }
 
 // Takes every byte of a portion, and answers each line that ends in it.
@@ -101,18 +97,9 @@ fn feed(line: &mut [u8], held: usize, portion: &[u8], st: State) -> Fed {
                 state,
             };
         }
-        let mut open = true;
-        match heard(line, g.count) {
-            Heard::Answered(written) => {
-                open = written;
-            }
-            Heard::Asks(name) => {
-                let done = asked(line, g.count, name, state);
-                state = done.state;
-                open = done.open;
-            }
-        }
-        if !open {
+        let done = taken(line, g.count, state);
+        state = done.state;
+        if !done.open {
             return Fed {
                 count: 0,
                 open: false,
@@ -129,32 +116,17 @@ fn feed(line: &mut [u8], held: usize, portion: &[u8], st: State) -> Fed {
     }
 }
 
-// The input has ended. A last line with no LF is a call too.
-fn ended(line: &[u8], held: Fed) -> Fed {
-    let state = held.state;
-    if 0 < held.count {
-        match heard(line, held.count) {
-            Heard::Answered(_) => {}
-            Heard::Asks(name) => {
-                asked(line, held.count, name, state);
-            }
-        }
-    }
-    Fed {
-        count: 0,
-        open: false,
-        state,
-    }
-}
-
-// Reads once, and takes what came.
+// Reads once, and takes what came. Where the input has ended, or cannot be read, a last line that has no LF
+// is given one, since it is a call too.
 fn turn(line: &mut [u8], held: Fed, portion: &mut [u8]) -> Fed {
     let got = libc::read(0, portion);
+    let state = held.state;
     if got <= 0 {
-        return ended(line, held);
+        let mut last = feed(line, held.count, b"\n", state);
+        last.open = false;
+        return last;
     }
     let n = io::count(got, portion);
-    let state = held.state;
     feed(line, held.count, &portion[..n], state)
 }
 

@@ -1,5 +1,6 @@
 // The program's own part: the calls clock.*. Proved safe, with no equations: docs/EXCEPTIONS.md says why.
 mod limits;
+pub mod names;
 
 use crate::limits::clock_generation;
 use crate::limits::preset;

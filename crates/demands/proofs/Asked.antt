@@ -59,11 +59,11 @@ flags a b c d e g = record { dt = a; float = b; speed = c; ease = d; map = e; ti
 
 -- the id first, then the arguments, then the rest
 pub given-is :
-    (m : Bool) (f : Faults) (r t u s : Bool)
-    → firstIn order (holds (record { missing = m; faults = f; noRoom = r; tooFar = t; ticksFull = u; short = s }))
-    ≡ cond m 7 (cond (eqb (firstFault f) 0) (cond r 8 (cond t 9 (cond u 10 (cond s 11 0)))) (firstFault f))
+    (m : Bool) (f : Faults) (r t u s z : Bool)
+    → firstIn order (holds (record { missing = m; faults = f; noRoom = r; tooFar = t; ticksFull = u; short = s; beforeZero = z }))
+    ≡ cond m 7 (cond (eqb (firstFault f) 0) (cond r 8 (cond t 9 (cond u 10 (cond s 11 (cond z 12 0))))) (firstFault f))
 unfolding firstIn firstFault
-given-is m f r t u s = ap (cond m 7) (go (f .dt) (f .float) (f .speed) (f .ease) (f .map) (f .time) (cond r 8 (cond t 9 (cond u 10 (cond s 11 0)))))
+given-is m f r t u s z = ap (cond m 7) (go (f .dt) (f .float) (f .speed) (f .ease) (f .map) (f .time) (cond r 8 (cond t 9 (cond u 10 (cond s 11 (cond z 12 0))))))
   where
     go :
         (a b c d e g : Bool) (x : ℕ)
@@ -87,7 +87,7 @@ judged-number number x y n p q = go (eqb n 0) (eqb-true n 0)
 
 -- an id, and the faults of what comes with it
 pub id-given : (m : Bool) (f : Faults) → firstIn order (holds (ofId m f)) ≡ cond m 7 (firstFault f)
-id-given m f = given-is m f false false false false ∙ ap (cond m 7) (judged-number (λ (n : ℕ). n) 0 (firstFault f) (firstFault f) refl refl)
+id-given m f = given-is m f false false false false false ∙ ap (cond m 7) (judged-number (λ (n : ℕ). n) 0 (firstFault f) (firstFault f) refl refl)
 
 pub add-given : (f : Faults) (ks : List Key) → firstIn order (holds (ofAdd f ks)) ≡ cond (eqb (firstFault f) 0) (cond (everyTaken ks) 8 0) (firstFault f)
-add-given f ks = given-is false f (everyTaken ks) false false false
+add-given f ks = given-is false f (everyTaken ks) false false false false

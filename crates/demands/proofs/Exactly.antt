@@ -1,20 +1,28 @@
--- Demand 1: the number that every call is given, as the first of document 01's order whose condition holds; and the same read both ways. Assumes nothing.
-use Prim.Native.Nat.{ℕ}
+-- Demand 1: the number that every call of `Entries` is given, and every judged call that is lent nothing, as the first of document 01's order whose condition holds; and the same read both ways. Assumes nothing.
+use Prim.Native.Nat.{ℕ, _+_, _-_, _^_, _<_}
 use mathlib.Core.Path.{_≡_, refl, sym, _∙_}
 use mathlib.Core.Bool.{Bool, true, false, cond, false≢true}
 use mathlib.Core.Logic.{_↔_}
 use mathlib.Core.List.{List}
 use lib.ListN.{length}
 use lib.Dec.{eqb, ltb}
-use Rattle.times.specs.Judge.{noFaults, dtFaults, firstFault}
+use borrow.Author.Tests.{ltb-true, lt-ltb}
+use Rattle.times.specs.Answer.{accepted, refused}
+use Rattle.times.specs.Judge.{noFaults, bothFaults, badFraction, dtFaults, floatFaults, fractionFaults, firstFault, judged}
+use Rattle.times.specs.Speeds.{speedFaults}
+use Rattle.times.specs.Starts.{startFaults, startUpOf}
+use Rattle.times.specs.Times.{addTicksOf, subTicksOf}
 use Rattle.times.specs.declared.judge.Faults.{Faults}
 use Rattle.times.specs.declared.time.ClockId.{ClockId}
+use Rattle.times.specs.declared.time.ClockTime.{ClockTime}
+use Rattle.tweens.specs.Values.{floatValueFaults, speedValueFaults}
 use Rattle.parameters.specs.FloatParameters as floats
 use Rattle.parameters.specs.SpeedParameters as speeds
 use Rattle.parameters.specs.declared.float_parameter.FloatAdvanced.{FloatAdvanced}
 use Rattle.parameters.specs.declared.float_parameter.FloatSet.{FloatSet}
 use Rattle.parameters.specs.declared.speed_parameter.SpeedAdvanced.{SpeedAdvanced}
 use Rattle.parameters.specs.declared.speed_parameter.SpeedSet.{SpeedSet}
+use Rattle.info.specs.Infos.{whenOf, rawFloatIn, rawSpeedIn}
 use Rattle.info.specs.ParametersIn.{updateFloatIn, updateSpeedIn}
 use Rattle.station.specs.Frames.{frameOf}
 use Rattle.station.specs.declared.station.Station.{Station}
@@ -22,13 +30,14 @@ use Rattle.report.specs.Reports.{unchanged, atStart, reportText, reportOf}
 use Rattle.laws.specs.Calls.{Call, clock, modulator, frame, refusal, done, numberIn, numberOf}
 use Rattle.laws.specs.SoundStation.{All}
 use Rattle.laws.proofs.Entries.{names-read}
-use Rattle.demands.specs.Entries.{Lent, Tables, Entry, onStation, setFloat, setSpeed, updateFloat, updateSpeed, report, numberTold, numberGiven}
-use Rattle.demands.specs.Conditions.{tooFarIn, ticksFullIn, inFrame, noClock, ofArguments, ofCall, ofReport, conditionsOf}
-use Rattle.demands.specs.Order.{order, holds, firstIn, among, Decides}
+use Rattle.demands.specs.Entries.{Lent, Tables, addTicks, subTicks, Entry, onStation, setFloat, setSpeed, updateFloat, updateSpeed, advanceFloat, advanceSpeed, report, when, readFloat, readSpeed, startIn, makeFloat, makeSpeed, shift, numberTold, numberGiven}
+use Rattle.demands.specs.Conditions.{Conditions, tooFarIn, ticksFullIn, inFrame, noClock, ofArguments, ofCall, ofReport, ofShift, conditionsOf}
+use Rattle.demands.specs.Order.{order, holds, firstIn, before, among, Decides}
 use Rattle.demands.proofs.Asked.{first-exactly, first-none, given-is, judged-number, id-given}
 use Rattle.demands.proofs.Lowest.{frame-number}
 use Rattle.demands.proofs.ByClock.{clock-case, clock-number}
 use Rattle.demands.proofs.ByModulator.{modulator-number}
+use Rattle.demands.proofs.ByTime.{shift-number}
 
 -- ---- the calls on the station
 
@@ -38,7 +47,7 @@ call-number st t (modulator c) = modulator-number st (t .modulators) c
 call-number st t (frame dt) =
     let n = frameOf st dt .refused in
     judged-number numberIn done (refusal n) n refl refl ∙ frame-number st dt
-    ∙ sym (given-is false (dtFaults dt) false (inFrame tooFarIn st dt) (inFrame ticksFullIn st dt) false)
+    ∙ sym (given-is false (dtFaults dt) false (inFrame tooFarIn st dt) (inFrame ticksFullIn st dt) false false)
 
 -- ---- the caller's parameters, and the report
 
@@ -46,13 +55,17 @@ call-number st t (frame dt) =
 arguments-number : {R : Type 0} (number : R → ℕ) (f : Faults) (x y : R) → number x ≡ 0 → number y ≡ firstFault f → number (cond (eqb (firstFault f) 0) x y) ≡ firstIn order (holds (ofArguments f))
 arguments-number number f x y p q = judged-number number x y (firstFault f) p q ∙ sym (id-given false f)
 
+-- a judged answer that asks nothing behind the faults
+judged-given : {A : Type 0} (f : Faults) (x : A) → numberTold (judged f (accepted x)) ≡ firstIn order (holds (ofArguments f))
+judged-given f x = arguments-number numberTold f (accepted x) (refused (firstFault f)) refl refl
+
 report-number : (st : Station) → Tables st → (id : ClockId) (out : List ℕ) → numberTold (reportOf (st .clocks) id out .answer) ≡ firstIn order (holds (ofReport st id out))
 unfolding reportOf firstFault
 report-number st t id out =
     clock-case st (t .clocks) id
     (λ m e. rw (e, m))
     (λ m c n. rw (names-read (st .clocks) id c n (reportText id), m) (go (reportText id c) (ltb (length out) 96)))
-    ∙ sym (given-is (noClock st id) noFaults false false false (ltb (length out) 96))
+    ∙ sym (given-is (noClock st id) noFaults false false false (ltb (length out) 96) false)
   where
     go : (text : List ℕ) (b : Bool) → numberTold (cond b (unchanged 11 out) (atStart text out) .answer) ≡ cond b 11 0
     go text true = refl
@@ -60,29 +73,80 @@ report-number st t id out =
 
 -- ---- every call
 
--- "Each is given exactly when its condition holds and nothing earlier in the order applies", as one equation: for every call, on all that can be lent, valid or not. `Tables` asks only for what the arrays' lengths give.
--- It speaks of numbers alone, not of what an accepted call does; and not of the calls that act on nothing lent, 12 among them.
+-- "Each is given exactly when its condition holds and nothing earlier in the order applies", as one equation: for every call of `Entries`, which says what it leaves out, on all that can be lent, valid or not. `Tables` asks only for what the arrays' lengths give.
+-- It speaks of numbers alone, not of what an accepted call does. What it rests on: the conditions of 1 to 6 are the very definitions that the entries' statements use (`dtFaults`, `setFaults`, ..), so they are held to 01 by `limits` of `Limits`
+-- and by reading. Those of 7 to 12 are written anew from 01 in `Conditions`, on what the definitions compute: whether an id lives; and in a frame what a clock sees in its turn, its speed, its advance, its sum and the whole ticks of it.
 pub number-given : (l : Lent) → Tables (l .station) → (e : Entry) → numberGiven l e ≡ firstIn order (holds (conditionsOf l e))
-unfolding floats.changeOf speeds.changeOf updateFloatIn updateSpeedIn floats.advanceOf speeds.advanceOf
+unfolding floats.changeOf speeds.changeOf updateFloatIn updateSpeedIn floats.advanceOf speeds.advanceOf whenOf rawFloatIn rawSpeedIn startUpOf floats.makeOf speeds.makeOf
 number-given l t (onStation c) = call-number (l .station) t c
 number-given l t (setFloat v w) = arguments-number (λ (r : FloatSet). r .refused) (floats.setFaults (l .float) v w) _ _ refl refl
 number-given l t (setSpeed v w) = arguments-number (λ (r : SpeedSet). r .refused) (speeds.setFaults (l .speed) v w) _ _ refl refl
 number-given l t (updateFloat dt) = arguments-number (λ (r : FloatAdvanced). r .refused) (dtFaults dt) _ _ refl refl
 number-given l t (updateSpeed dt) = arguments-number (λ (r : SpeedAdvanced). r .refused) (dtFaults dt) _ _ refl refl
+number-given l t (advanceFloat dt w i) = arguments-number (λ (r : FloatAdvanced). r .refused) (dtFaults dt) _ _ refl refl
+number-given l t (advanceSpeed dt w i) = arguments-number (λ (r : SpeedAdvanced). r .refused) (dtFaults dt) _ _ refl refl
 number-given l t (report id) = report-number (l .station) t id (l .buffer)
+number-given l t (when u) = judged-given (fractionFaults (u .fraction)) _
+number-given l t (readFloat v) = judged-given (floatValueFaults v) _
+number-given l t (readSpeed v) = judged-given (speedValueFaults v) _
+number-given l t (startIn s dt) = judged-given (bothFaults (dtFaults dt) (startFaults s)) _
+number-given l t (makeFloat v d) = judged-given (bothFaults (floatValueFaults v) (floatFaults d)) _
+number-given l t (makeSpeed v d) = judged-given (bothFaults (speedValueFaults v) (speedFaults d)) _
+number-given l t (shift u s) = shift-number u s
 
-module _ (l : Lent) (t : Tables (l .station)) (e : Entry) where
-  -- the same sentence, word by word, of each number of the order: given, if and only if its condition holds and none before it in the order does
-  pub exactly : (n : ℕ) → among n order ≡ true → (numberGiven l e ≡ n) ↔ Decides (conditionsOf l e) n
+-- ---- the order, read both ways
+
+module _ (c : Conditions) (m : ℕ) (e : m ≡ firstIn order (holds c)) where
+  by-order : (n : ℕ) → among n order ≡ true → (m ≡ n) ↔ Decides c n
   unfolding among
-  exactly n a =
-      let r = first-exactly (holds (conditionsOf l e)) n (λ z. no (rw z at a)) order a in
-      (λ q. let s = r .0 (sym (number-given l t e) ∙ q) in record { own = s .0; earlier = s .1 }, λ d. number-given l t e ∙ r .1 (d .own, d .earlier))
+  by-order n a =
+      let r = first-exactly (holds c) n (λ z. no (rw z at a)) order a in
+      (λ q. let s = r .0 (sym e ∙ q) in record { own = s .0; earlier = s .1 }, λ d. e ∙ r .1 (d .own, d .earlier))
     where
       no : among 0 order ≡ true → ⊥
       no h = let z : _≡_ {A = Bool} false true = h in absurd (false≢true z)
 
+  none-by-order : (m ≡ 0) ↔ All (λ n. holds c n ≡ false) order
+  unfolding among
+  none-by-order = let r = first-none (holds c) order refl in (λ q. r .0 (sym e ∙ q), λ h. e ∙ r .1 h)
+
+module _ (l : Lent) (t : Tables (l .station)) (e : Entry) where
+  -- the same sentence, word by word, of each number of the order: given, if and only if its condition holds and none before it in the order does
+  pub exactly : (n : ℕ) → among n order ≡ true → (numberGiven l e ≡ n) ↔ Decides (conditionsOf l e) n
+  exactly = by-order (conditionsOf l e) (numberGiven l e) (number-given l t e)
+
   -- and of 0, OK: accepted, if and only if no condition holds
   pub accepted-exactly : (numberGiven l e ≡ 0) ↔ All (λ n. holds (conditionsOf l e) n ≡ false) order
-  unfolding among
-  accepted-exactly = let r = first-none (holds (conditionsOf l e)) order refl in (λ q. r .0 (sym (number-given l t e) ∙ q), λ h. number-given l t e ∙ r .1 h)
+  accepted-exactly = none-by-order (conditionsOf l e) (numberGiven l e) (number-given l t e)
+
+-- ---- the judged calls that are lent nothing
+
+-- Any answer that is `judged` with some faults and is accepted where there is none: a number is given, if and only if its flag holds and none before it does, which leaves 1 to 6; and 0, if and only if no flag holds. Which faults a call is judged
+-- with is its own definition's, held to 01 by `limits` of `Limits` and by reading
+module _ {A : Type 0} (f : Faults) (x : A) where
+  pub judged-exactly : (n : ℕ) → among n order ≡ true → (numberTold (judged f (accepted x)) ≡ n) ↔ Decides (ofArguments f) n
+  judged-exactly = by-order (ofArguments f) (numberTold (judged f (accepted x))) (judged-given f x)
+
+  pub judged-accepted : (numberTold (judged f (accepted x)) ≡ 0) ↔ All (λ n. holds (ofArguments f) n ≡ false) order
+  judged-accepted = none-by-order (ofArguments f) (numberTold (judged f (accepted x))) (judged-given f x)
+
+-- ---- a time that is moved by whole ticks, in plain words; by a double, `exactly` has it
+
+module _ (t : ClockTime) (n : ℕ) where
+  -- 10, "ticks would pass 2^64 − 1": given, if and only if the fraction is well and they would
+  pub full-exactly : (numberTold (addTicksOf t n) ≡ 10) ↔ ((badFraction (t .fraction) ≡ false) × (2 ^ 64 - 1 < t .ticks + n))
+  unfolding before among
+  full-exactly =
+      let r = by-order (ofShift t (addTicks n)) (numberTold (addTicksOf t n)) (shift-number t (addTicks n)) 10 refl in (
+        λ q. let d = r .0 q in (d .earlier .1 .1 .1 .1 .1 .1 .0, ltb-true (2 ^ 64 - 1) (t .ticks + n) (d .own)),
+        λ h. r .1 (record { own = lt-ltb (2 ^ 64 - 1) (t .ticks + n) (h .1); earlier = (refl, (refl, (refl, (refl, (refl, (refl, (h .0, (refl, (refl, tt))))))))) }),
+      )
+
+  -- 12, "whole ticks subtracted exceed the ticks held": given, if and only if the fraction is well and they do
+  pub before-zero-exactly : (numberTold (subTicksOf t n) ≡ 12) ↔ ((badFraction (t .fraction) ≡ false) × (t .ticks < n))
+  unfolding before among
+  before-zero-exactly =
+      let r = by-order (ofShift t (subTicks n)) (numberTold (subTicksOf t n)) (shift-number t (subTicks n)) 12 refl in (
+        λ q. let d = r .0 q in (d .earlier .1 .1 .1 .1 .1 .1 .0, ltb-true (t .ticks) n (d .own)),
+        λ h. r .1 (record { own = lt-ltb (t .ticks) n (h .1); earlier = (refl, (refl, (refl, (refl, (refl, (refl, (h .0, (refl, (refl, (refl, (refl, tt))))))))))) }),
+      )

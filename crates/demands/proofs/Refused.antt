@@ -11,7 +11,7 @@ use Rattle.info.specs.ParametersIn.{floatDueOf, floatSourceOf, updateFloatIn, s
 use Rattle.station.specs.Stations.{infoIn}
 use Rattle.report.specs.Reports.{unchanged as asItWas, atStart, intoBuffer, reportText, reportOf}
 use Rattle.laws.proofs.Refusals.{refused-leaves, float-change-leaves, float-advance-leaves, speed-change-leaves, speed-advance-leaves}
-use Rattle.demands.specs.Entries.{Lent, Entry, onStation, setFloat, setSpeed, updateFloat, updateSpeed, report, numberTold, numberGiven, withStation, withFloat, withSpeed, withBuffer, handedBack}
+use Rattle.demands.specs.Entries.{Lent, Entry, onStation, setFloat, setSpeed, updateFloat, updateSpeed, advanceFloat, advanceSpeed, report, when, readFloat, readSpeed, startIn, makeFloat, makeSpeed, shift, numberTold, numberGiven, withStation, withFloat, withSpeed, withBuffer, handedBack}
 
 -- a report writes nothing, or is not refused
 unwritten : (out : List ℕ) (a : Answer (List ℕ)) → (numberTold (intoBuffer out a .answer) ≡ 0 → ⊥) → intoBuffer out a .out ≡ out
@@ -31,4 +31,13 @@ unchanged l (setFloat v w) h = ap (withFloat l) (float-change-leaves (l .float) 
 unchanged l (setSpeed v w) h = ap (withSpeed l) (speed-change-leaves (l .speed) v w h)
 unchanged l (updateFloat dt) h = let i = infoIn (l .station) in ap (withFloat l) (float-advance-leaves (l .float) dt (floatDueOf i (l .float)) (floatSourceOf i (l .float)) h)
 unchanged l (updateSpeed dt) h = let i = infoIn (l .station) in ap (withSpeed l) (speed-advance-leaves (l .speed) dt (speedDueOf i (l .speed)) (speedSourceOf i (l .speed)) h)
+unchanged l (advanceFloat dt w i) h = ap (withFloat l) (float-advance-leaves (l .float) dt w i h)
+unchanged l (advanceSpeed dt w i) h = ap (withSpeed l) (speed-advance-leaves (l .speed) dt w i h)
 unchanged l (report id) h = let t = l .station .clocks in ap (withBuffer l) (unwritten (l .buffer) (readFound t (whereIs t id) (reportText id)) h)
+unchanged l (when t) h = refl
+unchanged l (readFloat v) h = refl
+unchanged l (readSpeed v) h = refl
+unchanged l (startIn s dt) h = refl
+unchanged l (makeFloat v d) h = refl
+unchanged l (makeSpeed v d) h = refl
+unchanged l (shift t s) h = refl

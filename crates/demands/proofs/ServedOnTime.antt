@@ -81,7 +81,8 @@ module _ {st : Station} {id : ClockId} {es : List Event} (r : Run st id es) (tic
 -- "Stated over whole numbers": `scaled` is a double's value times 2^1074, and `scaled-value` of `Exact` shows that it loses nothing.
 --
 -- What it does not say: anything of a clock with an advance off the grid, whose sums are rounded; of a run in which the clock is stopped, reset or removed; that a frame is accepted; what
--- value the parameter shows, which is the definitions' own and, where it is linked, its modulator's.
+-- value the parameter shows, which is the definitions' own and, where it is linked, its modulator's; anything of the parameters that are inside the station (a clock's speed, an LFO's, a tweener): they wait by the same start
+-- test, in mid-frame, and the theorem speaks of the caller's own parameters.
 pub served : {st : Station} {id : ClockId} {es : List Event} → Run st id es → (tick : ℕ) (g : Float) → Double g → badFraction g ≡ false → Served st id es tick g
 served {st} {id} {es} r tick g D B =
     let F = fraction g D B in

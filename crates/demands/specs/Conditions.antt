@@ -1,20 +1,24 @@
 -- Demand 1: document 01's table of refusals. Which of its conditions hold of a call's arguments, each judged by itself, whatever else is wrong. Assumes nothing.
-use Prim.Native.Nat.{ℕ, zero, suc, _+_}
+use Prim.Native.Nat.{ℕ, zero, suc, _+_, _-_, _^_}
 use mathlib.Core.Bool.{Bool, true, false, not, _&&_, _||_, cond}
 use mathlib.Core.List.{List, [], _∷_}
 use lib.IntN.{pos}
 use lib.ListN.{length}
 use lib.Dec.{ltb}
-use lib.Ieee.{Float, fin, lt}
+use lib.Ieee.{Float, fin, binary64, add, neg, lt, toUnsigned}
+use Rattle.doubles.specs.Doubles.{signOf, wholeOf}
 use Rattle.tables.specs.Lists.{readAt}
 use Rattle.tables.specs.declared.Key.{Key}
 use Rattle.ticks.specs.WholeTicks.{takenOf}
 use Rattle.ticks.specs.declared.Taken.{Taken}
 use Rattle.ticks.specs.declared.Taken.the-variants as taken
 use Rattle.times.specs.Answer.{Answer, accepted, refused}
-use Rattle.times.specs.Judge.{noFaults, bothFaults, dtFaults, floatFaults}
+use Rattle.times.specs.Judge.{noFaults, bothFaults, dtFaults, floatFaults, fractionFaults}
+use Rattle.times.specs.Speeds.{speedFaults}
+use Rattle.times.specs.Starts.{startFaults}
 use Rattle.times.specs.declared.judge.Faults.{Faults}
 use Rattle.times.specs.declared.time.ClockId.{ClockId}
+use Rattle.times.specs.declared.time.ClockTime.{ClockTime}
 use Rattle.tweens.specs.Easings.{tweenFaults}
 use Rattle.tweens.specs.Values.{floatValueFaults, speedValueFaults}
 use Rattle.tweens.specs.Waves.{waveFaults}
@@ -41,10 +45,10 @@ use Rattle.station.specs.Frames.{Try, went, stopped, noReports, seeing, watchin
 use Rattle.station.specs.Stations.{infoIn}
 use Rattle.station.specs.declared.station.Station.{Station}
 use Rattle.laws.specs.Calls.{Call, clock, modulator, frame, ofClock, ofModulator, keysOf, lives}
-use Rattle.demands.specs.Entries.{Lent, Entry, onStation, setFloat, setSpeed, updateFloat, updateSpeed, report}
+use Rattle.demands.specs.Entries.{Lent, Shift, addTicks, subTicks, addFloat, subFloat, Entry, onStation, setFloat, setSpeed, updateFloat, updateSpeed, advanceFloat, advanceSpeed, report, when, readFloat, readSpeed, startIn, makeFloat, makeSpeed, shift}
 use Rattle.demands.specs.Events.{clockIn}
 
--- 7; 1 to 6; 8; 9; 10; 11. 12 belongs to a call that acts on no state
+-- 7; 1 to 6; 8; 9; 10; 11; 12
 pub record Conditions : Type 0 where
   pub missing : Bool
   pub faults : Faults
@@ -52,6 +56,7 @@ pub record Conditions : Type 0 where
   pub tooFar : Bool
   pub ticksFull : Bool
   pub short : Bool
+  pub beforeZero : Bool
 
 -- ---- 7: "the id names no living entry, or a modulator of the other kind than the call acts on"
 
@@ -122,11 +127,11 @@ inFrame f st dt = lowestIn f (seeing (infoIn st) (turned (infoIn st) dt (st .mod
 
 -- a call on the entry of an id, with these faults
 abbrev pub ofId : Bool → Faults → Conditions
-ofId m f = record { missing = m; faults = f; noRoom = false; tooFar = false; ticksFull = false; short = false }
+ofId m f = record { missing = m; faults = f; noRoom = false; tooFar = false; ticksFull = false; short = false; beforeZero = false }
 
 -- an add into a table with these keys
 abbrev pub ofAdd : Faults → List Key → Conditions
-ofAdd f ks = record { missing = false; faults = f; noRoom = everyTaken ks; tooFar = false; ticksFull = false; short = false }
+ofAdd f ks = record { missing = false; faults = f; noRoom = everyTaken ks; tooFar = false; ticksFull = false; short = false; beforeZero = false }
 
 -- a call that acts on no entry, with these faults
 abbrev pub ofArguments : Faults → Conditions
@@ -159,7 +164,7 @@ ofModulators st (modulators.SetPhase id x) = ofId (noneOf isLfo st id) (floatFau
 ofModulators st (modulators.Value id) = ofId (noModulator st id) noFaults
 
 abbrev pub ofFrame : Station → Float → Conditions
-ofFrame st dt = record { missing = false; faults = dtFaults dt; noRoom = false; tooFar = inFrame tooFarIn st dt; ticksFull = inFrame ticksFullIn st dt; short = false }
+ofFrame st dt = record { missing = false; faults = dtFaults dt; noRoom = false; tooFar = inFrame tooFarIn st dt; ticksFull = inFrame ticksFullIn st dt; short = false; beforeZero = false }
 
 abbrev pub ofCall : Station → Call → Conditions
 ofCall st (clock c) = ofClocks st c
@@ -168,7 +173,30 @@ ofCall st (frame dt) = ofFrame st dt
 
 -- 11: "report buffer under 96 bytes"
 abbrev pub ofReport : Station → ClockId → List ℕ → Conditions
-ofReport st id out = record { missing = noClock st id; faults = noFaults; noRoom = false; tooFar = false; ticksFull = false; short = ltb (length out) 96 }
+ofReport st id out = record { missing = noClock st id; faults = noFaults; noRoom = false; tooFar = false; ticksFull = false; short = ltb (length out) 96; beforeZero = false }
+
+-- ---- a time that is moved
+
+-- 10: "ticks would pass 2^64 − 1"
+abbrev pub past : ℕ → Bool
+past n = ltb (2 ^ 64 - 1) n
+
+-- 10, of an amount that is added: "s = fraction + x; ticks + whole(s)"
+abbrev pub pastBy : ClockTime → Float → Bool
+pastBy t x = past (t .ticks + toUnsigned 64 (wholeOf (add binary64 (t .fraction) x)))
+
+-- these faults, 10 and 12
+abbrev pub ofTime : Faults → Bool → Bool → Conditions
+ofTime f u z = record { missing = false; faults = f; noRoom = false; tooFar = false; ticksFull = u; short = false; beforeZero = z }
+
+-- 12: "whole ticks subtracted exceed the ticks held". "adding a negative amount is subtracting its opposite, and the reverse; −0.0 counts as negative": a double that is subtracted stops at 0, so 12 is not asked of it, and 10 is asked only of what is added
+abbrev pub ofShift : ClockTime → Shift → Conditions
+ofShift t (addTicks n) = ofTime (fractionFaults (t .fraction)) (past (t .ticks + n)) false
+ofShift t (subTicks n) = ofTime (fractionFaults (t .fraction)) false (ltb (t .ticks) n)
+ofShift t (addFloat x) = ofTime (bothFaults (floatFaults x) (fractionFaults (t .fraction))) (not (signOf x) && pastBy t x) false
+ofShift t (subFloat x) = ofTime (bothFaults (floatFaults x) (fractionFaults (t .fraction))) (signOf x && pastBy t (neg x)) false
+
+-- ---- every call
 
 abbrev pub conditionsOf : Lent → Entry → Conditions
 conditionsOf l (onStation c) = ofCall (l .station) c
@@ -176,4 +204,13 @@ conditionsOf l (setFloat v w) = ofArguments (floats.setFaults (l .float) v w)
 conditionsOf l (setSpeed v w) = ofArguments (speeds.setFaults (l .speed) v w)
 conditionsOf l (updateFloat dt) = ofArguments (dtFaults dt)
 conditionsOf l (updateSpeed dt) = ofArguments (dtFaults dt)
+conditionsOf l (advanceFloat dt w i) = ofArguments (dtFaults dt)
+conditionsOf l (advanceSpeed dt w i) = ofArguments (dtFaults dt)
 conditionsOf l (report id) = ofReport (l .station) id (l .buffer)
+conditionsOf l (when t) = ofArguments (fractionFaults (t .fraction))
+conditionsOf l (readFloat v) = ofArguments (floatValueFaults v)
+conditionsOf l (readSpeed v) = ofArguments (speedValueFaults v)
+conditionsOf l (startIn s dt) = ofArguments (bothFaults (dtFaults dt) (startFaults s))
+conditionsOf l (makeFloat v d) = ofArguments (bothFaults (floatValueFaults v) (floatFaults d))
+conditionsOf l (makeSpeed v d) = ofArguments (bothFaults (speedValueFaults v) (speedFaults d))
+conditionsOf l (shift t s) = ofShift t s

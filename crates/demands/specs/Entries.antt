@@ -1,17 +1,24 @@
--- Demand 1: every call that a caller can make, on everything that it can lend, the number that it is given and what is handed back; each by the definition that the entry's own contract cites. Assumes nothing.
+-- Demand 1: the calls that can be refused, on everything that a caller can lend, the number that each is given and what is handed back; each by the definition that the entry's own contract cites. Assumes nothing.
 use Prim.Native.Nat.{ℕ, _≤_}
 use mathlib.Core.List.{List}
 use lib.ListN.{length}
 use lib.Ieee.{Float}
 use Rattle.times.specs.Answer.{Answer, accepted, refused}
+use Rattle.times.specs.Times.{addTicksOf, subTicksOf, addFloatOf, subFloatOf}
+use Rattle.times.specs.declared.clock_speed.ClockSpeed.{ClockSpeed}
+use Rattle.times.specs.declared.start_time.StartTime.{StartTime}
+use Rattle.times.specs.declared.start_time.When.{When}
 use Rattle.times.specs.declared.time.ClockId.{ClockId}
+use Rattle.times.specs.declared.time.ClockTime.{ClockTime}
 use Rattle.tweens.specs.declared.tween.Tween.{Tween}
 use Rattle.tweens.specs.declared.value.FloatValue.{FloatValue}
+use Rattle.tweens.specs.declared.value.Input.{Input}
 use Rattle.tweens.specs.declared.value.SpeedValue.{SpeedValue}
 use Rattle.parameters.specs.FloatParameters as floats
 use Rattle.parameters.specs.SpeedParameters as speeds
 use Rattle.parameters.specs.declared.float_parameter.FloatParameter.{FloatParameter}
 use Rattle.parameters.specs.declared.speed_parameter.SpeedParameter.{SpeedParameter}
+use Rattle.info.specs.Infos.{whenOf, rawFloatIn, rawSpeedIn, startUpIn}
 use Rattle.info.specs.ParametersIn.{updateFloatIn, updateSpeedIn}
 use Rattle.station.specs.Stations.{infoIn}
 use Rattle.station.specs.declared.station.Station.{Station}
@@ -30,15 +37,42 @@ pub record Tables (st : Station) : Type 0 where
   pub clocks : length (st .clocks .keys) ≤ length (st .clocks .clocks)
   pub modulators : length (st .modulators .keys) ≤ length (st .modulators .slots)
 
--- A call on the station (a command on its clocks or its modulators, a read, or a frame), a set or an update of the caller's parameters, or a clock's report.
--- The calls that act on nothing lent (times, speeds, easings, mappings, waves, durations, a parameter that is made) are not here: each has the number of `judged` in its own definition; BEFORE_ZERO, 12, is one of theirs alone.
+-- a time moved by whole ticks or by a double
+pub data Shift : Type 0 where
+  addTicks : ℕ → Shift
+  subTicks : ℕ → Shift
+  addFloat : Float → Shift
+  subFloat : Float → Shift
+
+abbrev pub shiftedOf : ClockTime → Shift → Answer ClockTime
+shiftedOf t (addTicks n) = addTicksOf t n
+shiftedOf t (subTicks n) = subTicksOf t n
+shiftedOf t (addFloat x) = addFloatOf t x
+shiftedOf t (subFloat x) = subFloatOf t x
+
+-- On the station: a command on its clocks or its modulators, or a frame. On the caller's parameters: a set, an update that sees the station, and one that is told what it sees (`advance..`). A clock's report. What only looks at the station: whether a start has come (`when`), a value that is read, a start that
+-- is updated. What is lent nothing: a parameter that is made, which is a new one, and a time that is moved, with TICKS_FULL, 10, and BEFORE_ZERO, 12, which is its alone.
+-- Every public function of the core that can be refused is here, but for these:
+--   the calls on a table of clocks or modulators by itself (`add_clock`, `set_tweener`, ..): a command runs the one of its name, by the same definition
+--   the calls that are lent nothing and ask nothing but whether each argument is well (`as_seconds_per_tick` and its two like, `lerp_speed`, `lerp`, `secs`, `start_up`, `from_ticks_f64`, `compare`, `ease`, `wave`, `map_f`, `map_s`,
+--   `map_output`, `value_output`): each is `judged` with its faults and an accepted answer, and `judged-exactly` of `Exactly` speaks of all such
+--   a frame's parts on one clock (`take_ticks`, `update_clock`, `turn_clock`), whose 9 and 10 are here as the frame's
 pub data Entry : Type 0 where
   onStation : Call → Entry
   setFloat : FloatValue → Tween → Entry
   setSpeed : SpeedValue → Tween → Entry
   updateFloat : Float → Entry
   updateSpeed : Float → Entry
+  advanceFloat : Float → When → Input → Entry
+  advanceSpeed : Float → When → Input → Entry
   report : ClockId → Entry
+  when : ClockTime → Entry
+  readFloat : FloatValue → Entry
+  readSpeed : SpeedValue → Entry
+  startIn : StartTime → Float → Entry
+  makeFloat : FloatValue → Float → Entry
+  makeSpeed : SpeedValue → ClockSpeed → Entry
+  shift : ClockTime → Shift → Entry
 
 abbrev pub numberTold : {A : Type 0} → Answer A → ℕ
 numberTold (accepted x) = 0
@@ -51,7 +85,16 @@ numberGiven l (setFloat v w) = floats.changeOf (l .float) v w .refused
 numberGiven l (setSpeed v w) = speeds.changeOf (l .speed) v w .refused
 numberGiven l (updateFloat dt) = updateFloatIn (infoIn (l .station)) (l .float) dt .refused
 numberGiven l (updateSpeed dt) = updateSpeedIn (infoIn (l .station)) (l .speed) dt .refused
+numberGiven l (advanceFloat dt w i) = floats.advanceOf (l .float) dt w i .refused
+numberGiven l (advanceSpeed dt w i) = speeds.advanceOf (l .speed) dt w i .refused
 numberGiven l (report id) = numberTold (reportOf (l .station .clocks) id (l .buffer) .answer)
+numberGiven l (when t) = numberTold (whenOf (infoIn (l .station)) t)
+numberGiven l (readFloat v) = numberTold (rawFloatIn (infoIn (l .station)) v)
+numberGiven l (readSpeed v) = numberTold (rawSpeedIn (infoIn (l .station)) v)
+numberGiven l (startIn s dt) = numberTold (startUpIn (infoIn (l .station)) s dt)
+numberGiven l (makeFloat v d) = numberTold (floats.makeOf v d)
+numberGiven l (makeSpeed v d) = numberTold (speeds.makeOf v d)
+numberGiven l (shift t s) = numberTold (shiftedOf t s)
 
 abbrev pub withStation : Lent → Station → Lent
 withStation l st = record { station = st; float = l .float; speed = l .speed; buffer = l .buffer }
@@ -72,4 +115,13 @@ handedBack l (setFloat v w) = withFloat l (floats.changeOf (l .float) v w .param
 handedBack l (setSpeed v w) = withSpeed l (speeds.changeOf (l .speed) v w .parameter)
 handedBack l (updateFloat dt) = withFloat l (updateFloatIn (infoIn (l .station)) (l .float) dt .parameter)
 handedBack l (updateSpeed dt) = withSpeed l (updateSpeedIn (infoIn (l .station)) (l .speed) dt .parameter)
+handedBack l (advanceFloat dt w i) = withFloat l (floats.advanceOf (l .float) dt w i .parameter)
+handedBack l (advanceSpeed dt w i) = withSpeed l (speeds.advanceOf (l .speed) dt w i .parameter)
 handedBack l (report id) = withBuffer l (reportOf (l .station .clocks) id (l .buffer) .out)
+handedBack l (when t) = l
+handedBack l (readFloat v) = l
+handedBack l (readSpeed v) = l
+handedBack l (startIn s dt) = l
+handedBack l (makeFloat v d) = l
+handedBack l (makeSpeed v d) = l
+handedBack l (shift t s) = l

@@ -7,9 +7,9 @@ use lib.Dec.{eqb}
 use Rattle.laws.specs.SoundStation.{All}
 use Rattle.demands.specs.Conditions.{Conditions}
 
--- "Order: the id acted on (7), then dt (1), then 2, 3, 4, 5, 6, then 8, 9, 10, 11"
+-- "Order: the id acted on (7), then dt (1), then 2, 3, 4, 5, 6, then 8, 9, 10, 11, 12"
 abbrev pub order : List ℕ
-order = 7 ∷ 1 ∷ 2 ∷ 3 ∷ 4 ∷ 5 ∷ 6 ∷ 8 ∷ 9 ∷ 10 ∷ 11 ∷ []
+order = 7 ∷ 1 ∷ 2 ∷ 3 ∷ 4 ∷ 5 ∷ 6 ∷ 8 ∷ 9 ∷ 10 ∷ 11 ∷ 12 ∷ []
 
 -- whether the condition of a number holds
 abbrev pub holds : Conditions → ℕ → Bool
@@ -24,7 +24,8 @@ holds c n =
     (cond (eqb n 8) (c .noRoom)
     (cond (eqb n 9) (c .tooFar)
     (cond (eqb n 10) (c .ticksFull)
-    (cond (eqb n 11) (c .short) false))))))))))
+    (cond (eqb n 11) (c .short)
+    (cond (eqb n 12) (c .beforeZero) false)))))))))))
 
 -- the first of these numbers whose condition holds, and 0 where none does
 unfoldable pub firstIn : List ℕ → (ℕ → Bool) → ℕ

@@ -1,5 +1,7 @@
 // The calls fp.*: on one parameter of kind f64.
+use crate::KeptAt;
 use crate::done;
+use crate::kept;
 use grammar::FloatAt;
 use grammar::FloatValueAt;
 use info::info::Info;
@@ -24,7 +26,13 @@ pub struct Floats {
     pub slots: [FloatSlot; 16],
 }
 
-// The answer's length, 0 where the call is an error, and the parameter.
+// The answer's length, 0 where the call is an error, and the parameters.
+pub struct FloatsKept {
+    pub n: usize,
+    pub table: Floats,
+}
+
+// The same of one parameter.
 pub struct FloatKept {
     pub n: usize,
     pub slot: FloatSlot,
@@ -92,7 +100,7 @@ fn value(out: &mut [u8], at: usize, x: f64) -> usize {
 }
 
 // Every call but the update. One that was not made takes only `new`.
-pub fn call(line: &[u8], name: Word, at: usize, out: &mut [u8], s: FloatSlot) -> FloatKept {
+fn call(line: &[u8], name: Word, at: usize, out: &mut [u8], s: FloatSlot) -> FloatKept {
     if grammar::is(line, name, b"fp.new") {
         return make(line, at, out, s);
     }
@@ -116,7 +124,7 @@ pub fn call(line: &[u8], name: Word, at: usize, out: &mut [u8], s: FloatSlot) ->
 }
 
 // The update, with what is seen of clocks and modulators.
-pub fn update(line: &[u8], at: usize, out: &mut [u8], s: FloatSlot, info: Info) -> FloatKept {
+fn update(line: &[u8], at: usize, out: &mut [u8], s: FloatSlot, info: Info) -> FloatKept {
     let FloatAt::Is(dt, to) = grammar::float(line, at) else {
         return FloatKept { n: 0, slot: s };
     };
@@ -144,4 +152,36 @@ pub fn update(line: &[u8], at: usize, out: &mut [u8], s: FloatSlot, info: Info) 
             parameter,
         },
     }
+}
+
+// A call but the update, on the parameter that the line names.
+pub fn call_on(line: &[u8], name: Word, out: &mut [u8], t: Floats) -> FloatsKept {
+    let KeptAt::Is(k, at) = kept(line, name.to) else {
+        return FloatsKept { n: 0, table: t };
+    };
+    if k > 15 {
+        return FloatsKept { n: 0, table: t };
+    }
+    let s = t.slots[k];
+    let r = call(line, name, at, out, s);
+    let slot = r.slot;
+    let mut table = t;
+    table.slots[k] = slot;
+    FloatsKept { n: r.n, table }
+}
+
+// The update of the parameter that the line names.
+pub fn update_on(line: &[u8], name: Word, out: &mut [u8], t: Floats, info: Info) -> FloatsKept {
+    let KeptAt::Is(k, at) = kept(line, name.to) else {
+        return FloatsKept { n: 0, table: t };
+    };
+    if k > 15 {
+        return FloatsKept { n: 0, table: t };
+    }
+    let s = t.slots[k];
+    let r = update(line, at, out, s, info);
+    let slot = r.slot;
+    let mut table = t;
+    table.slots[k] = slot;
+    FloatsKept { n: r.n, table }
 }

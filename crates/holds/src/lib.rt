@@ -11,7 +11,7 @@ pub enum KeptAt {
     No,
 }
 
-pub fn kept(line: &[u8], at: usize) -> KeptAt {
+fn kept(line: &[u8], at: usize) -> KeptAt {
     let NumberAt::Is(k, to) = grammar::number(line, at) else {
         return KeptAt::No;
     };

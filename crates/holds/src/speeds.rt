@@ -1,5 +1,7 @@
 // The calls sp.*: on one parameter of kind speed.
+use crate::KeptAt;
 use crate::done;
+use crate::kept;
 use grammar::FloatAt;
 use grammar::SpeedAt;
 use info::info::Info;
@@ -27,7 +29,13 @@ pub struct Speeds {
     pub slots: [SpeedSlot; 16],
 }
 
-// The answer's length, 0 where the call is an error, and the parameter.
+// The answer's length, 0 where the call is an error, and the parameters.
+pub struct SpeedsKept {
+    pub n: usize,
+    pub table: Speeds,
+}
+
+// The same of one parameter.
 pub struct SpeedKept {
     pub n: usize,
     pub slot: SpeedSlot,
@@ -96,7 +104,7 @@ fn value(out: &mut [u8], at: usize, x: ClockSpeed) -> usize {
 }
 
 // Every call but the update. One that was not made takes only `new`.
-pub fn call(line: &[u8], name: Word, at: usize, out: &mut [u8], s: SpeedSlot) -> SpeedKept {
+fn call(line: &[u8], name: Word, at: usize, out: &mut [u8], s: SpeedSlot) -> SpeedKept {
     if grammar::is(line, name, b"sp.new") {
         return make(line, at, out, s);
     }
@@ -121,7 +129,7 @@ pub fn call(line: &[u8], name: Word, at: usize, out: &mut [u8], s: SpeedSlot) ->
 }
 
 // The update, with what is seen of clocks and modulators.
-pub fn update(line: &[u8], at: usize, out: &mut [u8], s: SpeedSlot, info: Info) -> SpeedKept {
+fn update(line: &[u8], at: usize, out: &mut [u8], s: SpeedSlot, info: Info) -> SpeedKept {
     let FloatAt::Is(dt, to) = grammar::float(line, at) else {
         return SpeedKept { n: 0, slot: s };
     };
@@ -150,4 +158,36 @@ pub fn update(line: &[u8], at: usize, out: &mut [u8], s: SpeedSlot, info: Info) 
             parameter,
         },
     }
+}
+
+// A call but the update, on the parameter that the line names.
+pub fn call_on(line: &[u8], name: Word, out: &mut [u8], t: Speeds) -> SpeedsKept {
+    let KeptAt::Is(k, at) = kept(line, name.to) else {
+        return SpeedsKept { n: 0, table: t };
+    };
+    if k > 15 {
+        return SpeedsKept { n: 0, table: t };
+    }
+    let s = t.slots[k];
+    let r = call(line, name, at, out, s);
+    let slot = r.slot;
+    let mut table = t;
+    table.slots[k] = slot;
+    SpeedsKept { n: r.n, table }
+}
+
+// The update of the parameter that the line names.
+pub fn update_on(line: &[u8], name: Word, out: &mut [u8], t: Speeds, info: Info) -> SpeedsKept {
+    let KeptAt::Is(k, at) = kept(line, name.to) else {
+        return SpeedsKept { n: 0, table: t };
+    };
+    if k > 15 {
+        return SpeedsKept { n: 0, table: t };
+    }
+    let s = t.slots[k];
+    let r = update(line, at, out, s, info);
+    let slot = r.slot;
+    let mut table = t;
+    table.slots[k] = slot;
+    SpeedsKept { n: r.n, table }
 }

@@ -1,13 +1,8 @@
 // The call frame.
+use crate::StationActed;
 use grammar::FloatAt;
 use station::frame::frame;
 use station::station::Station;
-
-// The answer's length, 0 where the line is no call, and the station.
-pub struct StationActed {
-    pub n: usize,
-    pub station: Station,
-}
 
 fn step(out: &mut [u8], st: Station, dt: f64) -> StationActed {
     let clocks = st.clocks;

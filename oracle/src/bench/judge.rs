@@ -224,6 +224,15 @@ pub(super) fn subtracted_ticks(held: u64, subtracted: u64) -> Faults {
 mod tests {
     use super::*;
 
+    /// The next double above a positive one, and the one below it.
+    fn above(x: f64) -> f64 {
+        f64::from_bits(x.to_bits() + 1)
+    }
+
+    fn below(x: f64) -> f64 {
+        f64::from_bits(x.to_bits() - 1)
+    }
+
     #[test]
     fn the_earliest_in_order_is_answered() {
         let id = Faults::when(true, 7);
@@ -239,7 +248,7 @@ mod tests {
         for x in [0.0, -0.0, LARGEST_FLOAT, -LARGEST_FLOAT] {
             assert_eq!(float(x).first(), None);
         }
-        for x in [LARGEST_FLOAT.next_up(), f64::NEG_INFINITY, f64::NAN] {
+        for x in [above(LARGEST_FLOAT), f64::NEG_INFINITY, f64::NAN] {
             assert_eq!(float(x).first(), Some(BAD_FLOAT));
             assert_eq!(float(-x).first(), Some(BAD_FLOAT));
         }
@@ -249,7 +258,7 @@ mod tests {
     fn dt_ends_at_sixty_and_has_no_sign() {
         assert_eq!(dt(0.0).first(), None);
         assert_eq!(dt(60.0).first(), None);
-        for x in [-0.0, 60.0f64.next_up(), f64::INFINITY, f64::NAN] {
+        for x in [-0.0, above(60.0), f64::INFINITY, f64::NAN] {
             assert_eq!(dt(x).first(), Some(BAD_DT));
         }
     }
@@ -260,8 +269,8 @@ mod tests {
         for unit in [SecondsPerTick, TicksPerSecond, TicksPerMinute] {
             assert_eq!(speed(unit(LEAST_SPEED)).first(), None);
             assert_eq!(speed(unit(LARGEST_SPEED)).first(), None);
-            assert_eq!(speed(unit(LEAST_SPEED.next_down())).first(), Some(3));
-            assert_eq!(speed(unit(LARGEST_SPEED.next_up())).first(), Some(3));
+            assert_eq!(speed(unit(below(LEAST_SPEED))).first(), Some(3));
+            assert_eq!(speed(unit(above(LARGEST_SPEED))).first(), Some(3));
             assert_eq!(speed(unit(f64::NAN)).first(), Some(3));
         }
         assert_eq!(speed(SecondsPerTick(0.0)).first(), Some(3));
@@ -279,7 +288,7 @@ mod tests {
     #[test]
     fn fractions_lie_from_zero_up_to_one() {
         assert_eq!(fraction(0.0).first(), None);
-        assert_eq!(fraction(1.0f64.next_down()).first(), None);
+        assert_eq!(fraction(below(1.0)).first(), None);
         for x in [-0.0, 1.0, -0.5, f64::NAN] {
             assert_eq!(fraction(x).first(), Some(BAD_TIME));
         }

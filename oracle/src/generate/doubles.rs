@@ -100,3 +100,12 @@ pub(super) fn any(random: &mut Random) -> f64 {
         }
     }
 }
+
+/// The next double above a positive one, and the one below it.
+pub(super) fn above(x: f64) -> f64 {
+    f64::from_bits(x.to_bits() + 1)
+}
+
+pub(super) fn below(x: f64) -> f64 {
+    f64::from_bits(x.to_bits() - 1)
+}

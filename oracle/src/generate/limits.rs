@@ -58,7 +58,7 @@ fn few_floats() -> Vec<f64> {
 
 fn fractions() -> Vec<f64> {
     let good = [0.0, f64::from_bits(1), 2f64.powi(-60), 0.25];
-    let ends = [0.5f64.next_up(), 1.0f64.next_down(), 1.0, -0.0];
+    let ends = [doubles::above(0.5), doubles::below(1.0), 1.0, -0.0];
     let bad = [-f64::from_bits(1), -0.5, f64::NAN, f64::INFINITY];
     [good, ends, bad].concat()
 }
@@ -72,7 +72,7 @@ fn speeds() -> Vec<f64> {
 }
 
 fn dts() -> Vec<f64> {
-    let ends = [60.0f64.next_down(), 60.0, 60.0f64.next_up(), 1.0];
+    let ends = [doubles::below(60.0), 60.0, doubles::above(60.0), 1.0];
     let small = [0.0, -0.0, f64::from_bits(1), 5e-10];
     let others = [1.5e-9, -1.0, f64::INFINITY, f64::NAN];
     [ends, small, others].concat()

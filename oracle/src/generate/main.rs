@@ -22,8 +22,9 @@ use std::{
 
 use random::Random;
 
-const USAGE: &str = "usage: generate FAMILY SEED COUNT [--powers MOST]
-FAMILY is floats, times, nanos, powers, station or shift. Powers that are accepted go to MOST, 1 to 16, or to 16.";
+const USAGE: &str = "usage: generate FAMILY SEED COUNT [--powers MOST] [--random]
+FAMILY is floats, times, nanos, powers, station or shift. Powers that are accepted go to MOST, 1 to 16, or to 16.
+COUNT is of all lines, or with --random of those behind the damaged lines and the limits.";
 
 /// One in this many lines is damaged, about 3 in 100.
 const DAMAGED: u64 = 33;
@@ -36,12 +37,16 @@ struct Family {
 }
 
 fn main() -> ExitCode {
-    let words: Vec<String> = env::args().skip(1).collect();
+    let mut words: Vec<String> = env::args().skip(1).collect();
+    let random = words.last().is_some_and(|word| word == "--random");
+    if random {
+        words.pop();
+    }
     let Some((family, seed, count)) = read_arguments(&words) else {
         eprintln!("{USAGE}");
         return ExitCode::from(2);
     };
-    match print(family, seed, count) {
+    match print(family, seed, count, random) {
         Ok(()) => ExitCode::SUCCESS,
         // The reader has enough.
         Err(error) if error.kind() == ErrorKind::BrokenPipe => ExitCode::SUCCESS,
@@ -75,12 +80,14 @@ fn read_arguments(words: &[String]) -> Option<(Family, u64, u64)> {
     Some((family, seed.parse().ok()?, count.parse().ok()?))
 }
 
-fn print(family: Family, seed: u64, count: u64) -> io::Result<()> {
+fn print(family: Family, seed: u64, count: u64, beside: bool) -> io::Result<()> {
     let mut output = BufWriter::new(io::stdout().lock());
     let mut random = Random::new(seed);
     let undamaged = family.limits.iter().map(|line| line.clone().into_bytes());
     let damaged = damage::every_kind(&family.limits, &mut random);
-    let mut first = damaged.into_iter().chain(undamaged);
+    let first: Vec<Vec<u8>> = damaged.into_iter().chain(undamaged).collect();
+    let count = if beside { count + first.len() as u64 } else { count };
+    let mut first = first.into_iter();
     for _ in 0..count {
         let line = first
             .next()

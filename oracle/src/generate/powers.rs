@@ -11,7 +11,7 @@ pub(super) fn family() -> Family {
         0.25,
         0.5,
         0.75,
-        1.0f64.next_down(),
+        doubles::below(1.0),
         1.0,
     ];
     let powers = 3..=16;

@@ -24,17 +24,8 @@ same-length c = search needs
 returns : tie.Need-returns Inv-loop μ-loop
 returns c = search needs
 
-heard-requires : tie.Need-heard-requires Inv-loop μ-loop
-heard-requires c κs = search needs
-
-enum-known-written : tie.Need-enum-known-written Inv-loop μ-loop
-enum-known-written c = search needs
-
-enum-known-name : tie.Need-enum-known-name Inv-loop μ-loop
-enum-known-name c = search needs
-
-asked-requires : tie.Need-asked-requires Inv-loop μ-loop
-asked-requires c κs = search needs
+taken-requires : tie.Need-taken-requires Inv-loop μ-loop
+taken-requires c κs = search needs
 
 same-length-2 : tie.Need-same-length-2 Inv-loop μ-loop
 same-length-2 c = search needs
@@ -64,10 +55,7 @@ feed-spec =
     gather-requires
     same-length
     returns
-    heard-requires
-    enum-known-written
-    enum-known-name
-    asked-requires
+    taken-requires
     same-length-2
     returns-2
     loop-less
