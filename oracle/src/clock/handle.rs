@@ -44,6 +44,16 @@ impl Clock {
         self.speed.value()
     }
 
+    /// Sets the speed at once, past the handle.
+    pub(crate) fn retune(&mut self, target: Value<ClockSpeed>, tween: Tween) {
+        self.speed.set(target, tween);
+    }
+
+    /// Starts or stops at once, past the handle.
+    pub(crate) fn toggle(&mut self, ticking: bool) {
+        self.set_ticking(ticking);
+    }
+
     /// Puts the clock at a time, started.
     pub(crate) fn preset(&mut self, ticks: u64, fraction: f64) {
         self.state = State::Started {

@@ -3,7 +3,7 @@
 use std::sync::Arc;
 
 use crate::{
-    Value,
+    Tween, Value,
     held::Held,
     modulator::{Modulator, ModulatorBuilder, ModulatorId},
 };
@@ -31,5 +31,15 @@ impl ModulatorBuilder for LfoBuilder {
             command_writers,
         };
         (entry, handle)
+    }
+}
+
+impl LfoBuilder {
+    /// An LFO by itself, with its amplitude under way to another: what the program `speed` puts into the table.
+    pub(crate) fn alone(self, amplitude: Value<f64>, tween: Tween) -> Box<dyn Modulator> {
+        let (_, command_readers) = command_writers_and_readers();
+        let mut lfo = Lfo::new(&self, command_readers, Arc::new(LfoShared::new()));
+        lfo.amplitude.set(amplitude, tween);
+        Box::new(lfo)
     }
 }

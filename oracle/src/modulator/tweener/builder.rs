@@ -3,6 +3,7 @@
 use std::sync::Arc;
 
 use crate::{
+    Tween,
     held::Held,
     modulator::{Modulator, ModulatorBuilder, ModulatorId},
 };
@@ -26,5 +27,16 @@ impl ModulatorBuilder for TweenerBuilder {
             command_writers,
         };
         (entry, handle)
+    }
+}
+
+impl TweenerBuilder {
+    /// A tweener under way to a target, by itself: what the program `speed` puts into the table.
+    pub(crate) fn alone(self, target: f64, tween: Tween) -> Box<dyn Modulator> {
+        let (_, command_readers) = command_writers_and_readers();
+        let shared = Arc::new(TweenerShared::new());
+        let mut tweener = Tweener::new(self.initial_value, command_readers, shared);
+        tweener.set(target, tween);
+        Box::new(tweener)
     }
 }
