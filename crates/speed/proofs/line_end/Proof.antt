@@ -1,3 +1,4 @@
+-- `speed::line_end` is safe and ends, and its place is not before the one that it was given. Assumes nothing.
 use borrow.Author.Needs.{needs}
 use Prim.Native.Nat.{_≤_, _-_}
 use lib.ListN.{length}

@@ -1,6 +1,6 @@
+-- `speed::same` is safe and ends: the bytes are gone through one by one. Assumes nothing.
 use borrow.Author.Needs.{needs}
 use Prim.Native.Nat.{_-_}
-use mathlib.Core.Path.{_≡_}
 use lib.ListN.{length}
 use Rattle.speed.proofs.same.Statement.{statement}
 use Rattle.speed.proofs.same.Tie as tie

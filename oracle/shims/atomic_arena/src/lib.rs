@@ -95,11 +95,18 @@ impl Controller {
     }
 }
 
+/// A value, and the generation of its key: a lookup takes no lock.
+#[derive(Debug)]
+struct Entry<T> {
+    generation: u32,
+    value: T,
+}
+
 /// A fixed number of slots for values.
 #[derive(Debug)]
 pub struct Arena<T> {
     controller: Controller,
-    values: Vec<Option<T>>,
+    entries: Vec<Option<Entry<T>>>,
 }
 
 impl<T> Arena<T> {
@@ -109,7 +116,7 @@ impl<T> Arena<T> {
             controller: Controller {
                 slots: Arc::new(Mutex::new(slots)),
             },
-            values: (0..capacity).map(|_| None).collect(),
+            entries: (0..capacity).map(|_| None).collect(),
         }
     }
 
@@ -122,45 +129,40 @@ impl<T> Arena<T> {
         if !self.controller.names_taken(key) {
             return Err(KeyNotReserved);
         }
-        let place = &mut self.values[key.slot as usize];
+        let place = &mut self.entries[key.slot as usize];
         if place.is_some() {
             return Err(KeyNotReserved);
         }
-        *place = Some(value);
+        *place = Some(Entry {
+            generation: key.generation,
+            value,
+        });
         Ok(())
     }
 
     pub fn get(&self, key: Key) -> Option<&T> {
-        if !self.controller.names_taken(key) {
-            return None;
-        }
-        self.values[key.slot as usize].as_ref()
+        let entry = self.entries.get(key.slot as usize)?.as_ref()?;
+        (entry.generation == key.generation).then_some(&entry.value)
     }
 
     pub fn get_mut(&mut self, key: Key) -> Option<&mut T> {
-        if !self.controller.names_taken(key) {
-            return None;
-        }
-        self.values[key.slot as usize].as_mut()
+        let entry = self.entries.get_mut(key.slot as usize)?.as_mut()?;
+        (entry.generation == key.generation).then_some(&mut entry.value)
     }
 
     /// Takes the value out and frees its slot.
     pub fn remove(&mut self, key: Key) -> Option<T> {
-        if !self.controller.names_taken(key) {
-            return None;
-        }
-        let value = self.values[key.slot as usize].take()?;
+        self.get(key)?;
+        let entry = self.entries[key.slot as usize].take()?;
         self.controller.free(key);
-        Some(value)
+        Some(entry.value)
     }
 
     /// The keys of all values, in slot order.
     pub fn keys(&self) -> Vec<Key> {
-        let slots = self.controller.slots();
-        let numbered = (0..).zip(slots.iter()).zip(&self.values);
-        let living = numbered.filter(|(_, value)| value.is_some());
-        living
-            .map(|((number, slot), _)| Key::new(number, slot.generation))
+        let numbered = (0..).zip(&self.entries);
+        numbered
+            .filter_map(|(number, entry)| Some(Key::new(number, entry.as_ref()?.generation)))
             .collect()
     }
 }

@@ -1,3 +1,4 @@
+-- `speed::cases::commands` is safe and ends: each turn leaves one command less. Assumes nothing.
 use borrow.Author.Needs.{needs}
 use Rattle.speed.proofs.cases.commands.Statement.{statement}
 use Rattle.speed.proofs.cases.commands.Tie as tie

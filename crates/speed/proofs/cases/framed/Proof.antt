@@ -1,3 +1,4 @@
+-- `speed::cases::framed` is safe and ends: each turn leaves one frame less. Assumes nothing.
 use borrow.Author.Needs.{needs}
 use Rattle.speed.proofs.cases.framed.Statement.{statement}
 use Rattle.speed.proofs.cases.framed.Tie as tie

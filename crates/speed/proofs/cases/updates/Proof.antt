@@ -1,3 +1,4 @@
+-- `speed::cases::updates` is safe and ends: each turn leaves one update less. Assumes nothing.
 use borrow.Author.Needs.{needs}
 use Rattle.speed.proofs.cases.updates.Statement.{statement}
 use Rattle.speed.proofs.cases.updates.Tie as tie

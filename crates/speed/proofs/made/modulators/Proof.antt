@@ -1,3 +1,4 @@
+-- `speed::made::modulators` is safe and ends: the tables keep their 16 places, and each turn fills one more. Assumes nothing.
 use borrow.Author.Needs.{needs}
 use Prim.Native.Nat.{_-_}
 use Rattle.speed.proofs.made.modulators.Statement.{statement}

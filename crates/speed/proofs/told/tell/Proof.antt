@@ -1,3 +1,4 @@
+-- `speed::told::tell` is safe and ends: the slots are gone through one by one. Assumes nothing.
 use borrow.Author.Needs.{needs}
 use Prim.Native.Nat.{_-_}
 use Rattle.speed.proofs.told.tell.Statement.{statement}
