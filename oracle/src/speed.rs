@@ -8,32 +8,10 @@ mod made;
 #[path = "speed/station.rs"]
 mod station;
 
-#[allow(dead_code)]
-mod clock;
-#[allow(dead_code)]
-mod command;
-#[allow(dead_code)]
-mod held;
-#[allow(dead_code)]
-mod info;
-#[allow(dead_code)]
-mod listener;
-#[allow(dead_code)]
-mod modulator;
-#[allow(dead_code)]
-mod parameter;
-#[allow(dead_code)]
-mod start_time;
+include!("original.rs");
+
 #[allow(dead_code)]
 mod tween;
-#[allow(dead_code)]
-mod value;
-
-pub(crate) use command::command_writers_and_readers;
-pub(crate) use parameter::Parameter;
-pub(crate) use start_time::StartTime;
-pub(crate) use tween::{Easing, Tween, Tweenable};
-pub(crate) use value::Value;
 
 use std::io::{self, Read, Write};
 

@@ -1,0 +1,28 @@
+// The original's modules, all but the tween module, and what they lean on. Names stand at the root as they do
+// in the original, whose files ask for them there. Not every program uses all of it.
+
+#[allow(dead_code)]
+mod command;
+#[allow(dead_code)]
+mod held;
+
+#[allow(dead_code)]
+mod clock;
+#[allow(dead_code)]
+mod info;
+#[allow(dead_code)]
+mod listener;
+#[allow(dead_code)]
+mod modulator;
+#[allow(dead_code)]
+mod parameter;
+#[allow(dead_code)]
+mod start_time;
+#[allow(dead_code)]
+mod value;
+
+pub(crate) use command::command_writers_and_readers;
+pub(crate) use parameter::Parameter;
+pub(crate) use start_time::StartTime;
+pub(crate) use tween::{Easing, Tween, Tweenable};
+pub(crate) use value::Value;
