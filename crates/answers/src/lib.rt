@@ -5,20 +5,20 @@
 ghost use mathlib.Core.Path.{_≡_};
 ghost use Rattle.answers.specs.Answers.{speedText, easeText, timeText, idText, startText, floatMapText, floatValueText, refusedText, floatedText, speededText};
 ghost use Rattle.digits.specs.Puts.{place, putAll, lineOf};
+use clock_speed::ClockSpeed;
+use clock_speed::Speeded;
 use digits::counted;
 use digits::end;
 use digits::float;
 use digits::named;
 use digits::number;
 use digits::put;
-use times::clock_speed::ClockSpeed;
-use times::clock_speed::Speeded;
-use times::judge::Floated;
-use times::start_time::StartTime;
-use times::time::ClockTime;
-use tweens::tween::Easing;
-use tweens::value::FloatMapping;
-use tweens::value::FloatValue;
+use judge::Floated;
+use start_time::StartTime;
+use time::ClockTime;
+use tween::Easing;
+use value::FloatMapping;
+use value::FloatValue;
 
 pub fn speed(out: &mut [u8], at: usize, s: ClockSpeed) -> usize
     ensures { λ r. ⌜ place (now (out .exit)) r ≡ putAll (place (now (out .entry)) at) (speedText s) ⌝ }

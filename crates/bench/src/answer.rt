@@ -5,21 +5,13 @@ use calls::floats;
 use calls::speeds;
 use families::instants;
 use families::mappings;
-use state::answer::answer;
-use state::held::State;
+use heard::Heard;
+use heard::Part;
+use heard::asks;
+use heard::silent;
+use info::info::Info;
+use stationcalls::StationActed;
 use text::Word;
-
-// A line that was answered, and whether that could be written; or, by its name, what asks the state.
-pub enum Heard {
-    Answered(bool),
-    Asks(Word),
-}
-
-// Whether the answer was written, and the state.
-pub struct Done {
-    pub open: bool,
-    pub state: State,
-}
 
 // The answer to a line that is no call, and whether it was written.
 pub fn error() -> bool {
@@ -32,6 +24,32 @@ fn written(out: &[u8], n: usize) -> bool {
         return false;
     }
     io::write_all(1, &out[0..n])
+}
+
+// Writes an answer, given its length, which is 0 where the line is no call.
+fn told(out: &[u8], n: usize) -> bool {
+    if n == 0 {
+        return error();
+    }
+    written(out, n)
+}
+
+// Writes the answer of the part that a line is for, and says whether to go on.
+pub fn answered(out: &[u8], h: Heard, station: usize, floats: usize, speeds: usize) -> bool {
+    let part = h.part;
+    match part {
+        Part::New => told(out, station),
+        Part::Station => told(out, station),
+        Part::Floats => told(out, floats),
+        Part::Speeds => told(out, speeds),
+        Part::Nothing => h.open,
+        Part::None => error(),
+    }
+}
+
+// What a line sees of the station that is held.
+pub fn seen(h: Heard, held: StationActed) -> Info {
+    state::seen(h, held.station)
 }
 
 // Whether a line is skipped: it has no word, or its first byte is a `#`.
@@ -68,38 +86,14 @@ fn called(line: &[u8], name: Word, out: &mut [u8]) -> usize {
 }
 
 // Answers a line that asks nothing of the state; one that is skipped has no answer.
-pub fn line(line: &[u8]) -> Heard {
+pub fn line(line: &[u8], out: &mut [u8]) -> Heard {
     let name = text::next_word(line, 0);
     if skipped(line, name) {
-        return Heard::Answered(true);
+        return silent(true);
     }
-    let mut out = [0u8; 512];
-    let n = called(line, name, &mut out);
-    if n == 0 {
-        return Heard::Asks(name);
+    let n = called(line, name, out);
+    if n != 0 {
+        return silent(written(out, n));
     }
-    Heard::Answered(written(&out, n))
-}
-
-// Answers a line that asks the state: the first bytes of a buffer.
-pub fn asked(line: &[u8], count: usize, name: Word, st: State) -> Done {
-    if line.len() < count {
-        return Done {
-            open: error(),
-            state: st,
-        };
-    }
-    let mut out = [0u8; 512];
-    let a = answer(&line[0..count], name, &mut out, st);
-    let state = a.state;
-    if a.n == 0 {
-        return Done {
-            open: error(),
-            state,
-        };
-    }
-    Done {
-        open: written(&out, a.n),
-        state,
-    }
+    asks(line, name)
 }

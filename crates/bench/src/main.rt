@@ -5,21 +5,31 @@ mod answer;
 
 ghost use Prim.Native.Nat.{_<_};
 ghost use lib.ListN.{length};
-use crate::answer::Done;
-use crate::answer::Heard;
-use state::held::State;
+use crate::answer::answered;
+use crate::answer::seen;
+use heard::Heard;
+use heard::silent;
+use holds::floats::no_floats;
+use holds::speeds::no_speeds;
+use state::floats_after;
+use state::speeds_after;
+use stationcalls::after::begun;
+use stationcalls::after::station_after;
+use text::Word;
 
 // The longest line, its LF not counted, and a count that stands for a longer one.
 const LONGEST: usize = 1024;
 
 const TOO_LONG: usize = 1025;
 
-// What is kept between portions: the number of bytes of an unfinished line, whether to go on, and the
-// state.
-pub struct Fed {
+// Where the reading stands: the number of bytes of an unfinished line, the place in the portion and the
+// portion's end, whether the input has ended, and the last line that was heard.
+pub struct Reading {
     pub count: usize,
-    pub open: bool,
-    pub state: State,
+    pub at: usize,
+    pub to: usize,
+    pub ended: bool,
+    pub heard: Heard,
 }
 
 // A line so far: its bytes, whether it is whole, and the place in the portion behind it.
@@ -65,87 +75,126 @@ fn gather(line: &mut [u8], held: usize, portion: &[u8], from: usize) -> Gathered
 }
 
 // Hears a whole line.
-fn heard(line: &[u8], count: usize) -> Heard {
+fn hear(line: &[u8], count: usize, out: &mut [u8]) -> Heard {
     if LONGEST < count {
-        return Heard::Answered(answer::error());
+        return silent(answer::error());
     }
     if line.len() < count {
-        return Heard::Answered(answer::error());
+        return silent(answer::error());
     }
-    answer::line(&line[0..count])
+    answer::line(&line[0..count], out)
 }
 
-// Answers a whole line.
-fn taken(line: &[u8], count: usize, st: State) -> Done {
-    match heard(line, count) {
-        Heard::Answered(open) => Done { open, state: st },
-        Heard::Asks(name) => answer::asked(line, count, name, st),
-    }
-}
-
-// Takes every byte of a portion, and answers each line that ends in it.
-fn feed(line: &mut [u8], held: usize, portion: &[u8], st: State) -> Fed {
-    let mut count = held;
-    let mut state = st;
-    let mut at: usize = 0;
-    while at < portion.len() {
-        let g = gather(line, count, portion, at);
-        if !g.whole {
-            return Fed {
-                count: g.count,
-                open: true,
-                state,
-            };
-        }
-        let done = taken(line, g.count, state);
-        state = done.state;
-        if !done.open {
-            return Fed {
-                count: 0,
-                open: false,
-                state,
-            };
-        }
-        count = 0;
-        at = g.at;
-    }
-    Fed {
-        count,
-        open: true,
-        state,
-    }
-}
-
-// Reads once, and takes what came. Where the input has ended, or cannot be read, a last line that has no LF
-// is given one, since it is a call too.
-fn turn(line: &mut [u8], held: Fed, portion: &mut [u8]) -> Fed {
+// Reads once. Where the input has ended, or cannot be read, a last line that has no LF is heard, since it is a
+// call too.
+fn read(line: &[u8], portion: &mut [u8], out: &mut [u8], r: Reading) -> Reading {
     let got = libc::read(0, portion);
-    let state = held.state;
     if got <= 0 {
-        let mut last = feed(line, held.count, b"\n", state);
-        last.open = false;
-        return last;
+        return Reading {
+            count: 0,
+            at: 0,
+            to: 0,
+            ended: true,
+            heard: hear(line, r.count, out),
+        };
     }
-    let n = io::count(got, portion);
-    feed(line, held.count, &portion[..n], state)
+    Reading {
+        count: r.count,
+        at: 0,
+        to: io::count(got, portion),
+        ended: false,
+        heard: silent(true),
+    }
+}
+
+// Takes the portion's bytes up to a line's end, and hears the line.
+fn take(line: &mut [u8], portion: &[u8], out: &mut [u8], r: Reading) -> Reading {
+    let at = r.at;
+    let bytes = text::part(portion, Word { from: 0, to: r.to });
+    if bytes.len() <= at {
+        return Reading {
+            count: r.count,
+            at: 0,
+            to: 0,
+            ended: false,
+            heard: silent(true),
+        };
+    }
+    let g = gather(line, r.count, bytes, at);
+    if !g.whole {
+        return Reading {
+            count: g.count,
+            at: g.at,
+            to: r.to,
+            ended: false,
+            heard: silent(true),
+        };
+    }
+    Reading {
+        count: 0,
+        at: g.at,
+        to: r.to,
+        ended: false,
+        heard: hear(line, g.count, out),
+    }
+}
+
+// Goes on to the next line's end, or the portion's. Reads where the portion is used up.
+fn next(line: &mut [u8], portion: &mut [u8], out: &mut [u8], r: Reading) -> Reading {
+    if r.at < r.to {
+        return take(line, portion, out, r);
+    }
+    read(line, portion, out, r)
+}
+
+// Nothing is read.
+fn start() -> Reading {
+    Reading {
+        count: 0,
+        at: 0,
+        to: 0,
+        ended: false,
+        heard: silent(true),
+    }
+}
+
+// The turns that are left: none where an answer could not be written, or the input has ended.
+fn fewer(turns: u64, open: bool, ended: bool) -> u64
+    requires { ⌜ 0 < turns ⌝ }
+    ensures { λ r. ⌜ r < turns ⌝ }
+{
+    if ended {
+        return 0;
+    }
+    if !open {
+        return 0;
+    }
+    turns - 1
 }
 
 // A proved loop ends, and nothing says that the input does: it counts down from a number that no run uses up.
-fn all(line: &mut [u8], portion: &mut [u8]) {
-    let mut held = Fed {
-        count: 0,
-        open: true,
-        state: state::held::new(),
-    };
+fn all(line: &mut [u8], portion: &mut [u8], out: &mut [u8]) {
+    let mut station = begun(0);
+    let mut floats = no_floats();
+    let mut speeds = no_speeds();
+    let mut r = start();
     let mut turns = u64::MAX;
-    while turns > 0 && held.open {
-        held = turn(line, held, portion);
-        turns -= 1;
+    while turns > 0 {
+        r = next(line, portion, out, r);
+        let h = r.heard;
+        let asked = text::part(line, h.bytes);
+        station = station_after(asked, h, out, station);
+        let info = seen(h, station);
+        floats = floats_after(asked, h, out, floats, info);
+        speeds = speeds_after(asked, h, out, speeds, info);
+        let open = answered(out, h, station.n, floats.n, speeds.n);
+        turns = fewer(turns, open, r.ended);
     }
 }
 
 fn main() {
     let mut line = [0u8; 1024];
     let mut portion = io::large_buffer();
-    all(&mut line, &mut portion);
+    let mut out = [0u8; 512];
+    all(&mut line, &mut portion, &mut out);
 }

@@ -5,14 +5,15 @@ use mathlib.Core.List.{List, [], _∷_, _++_}
 use lib.Ieee.{Float}
 use Rattle.doubles.specs.Doubles.{wholeOf, fractOf, ceilOf, absOf, clampOf}
 use Rattle.text.specs.declared.Word.{Word}
-use Rattle.times.specs.Answer.{Answer, accepted, refused}
-use Rattle.times.specs.Durations.{secsOf}
-use Rattle.times.specs.Speeds.{lerpOf, asSptOf, asTpsOf, asTpmOf, lerpSpeedOf}
-use Rattle.times.specs.declared.clock_speed.ClockSpeed.{ClockSpeed}
-use Rattle.tweens.specs.Easings.{easeOf, defaultTween}
-use Rattle.tweens.specs.Waves.{waveOf}
-use Rattle.tweens.specs.declared.tween.Tween.{Tween}
-use Rattle.tweens.specs.declared.waveform.Waveform.{Waveform}
+use Rattle.judge.specs.Answer.{Answer, accepted, refused}
+use Rattle.duration.specs.Durations.{secsOf}
+use Rattle.clock_speed.specs.Speeds.{asSptOf, asTpsOf, asTpmOf, lerpSpeedOf}
+use Rattle.tweenable.specs.Tweenables.{lerpOf}
+use Rattle.clock_speed.specs.declared.ClockSpeed.{ClockSpeed}
+use Rattle.tween.specs.Easings.{easeOf, defaultTween}
+use Rattle.waveform.specs.Waves.{waveOf}
+use Rattle.tween.specs.declared.Tween.{Tween}
+use Rattle.waveform.specs.declared.Waveform.{Waveform}
 use Rattle.grammar.specs.Grammar.{named, endedAt, floatAt, numberAt, speedAt, easeAt, waveAt, withFloat, withNumber, withSpeed, withEase}
 use Rattle.grammar.specs.declared.WaveAt.{WaveAt}
 use Rattle.grammar.specs.declared.WaveAt.the-variants as waved

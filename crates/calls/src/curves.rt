@@ -7,7 +7,7 @@ use grammar::FloatAt;
 use grammar::NumberAt;
 use grammar::WaveAt;
 use text::Word;
-use tweens::tween::Tween;
+use tween::Tween;
 
 fn ease(line: &[u8], at: usize, out: &mut [u8]) -> usize
     ensures { λ r. ⌜ place (now (out .exit)) r ≡ putAll (place (now (out .entry)) 0) (easeReply (now (line .entry)) at) ⌝ }
@@ -21,7 +21,7 @@ fn ease(line: &[u8], at: usize, out: &mut [u8]) -> usize
     if !grammar::ended(line, to) {
         return 0;
     }
-    answers::floated(out, tweens::tween::ease(e, x))
+    answers::floated(out, tween::ease(e, x))
 }
 
 fn lerp(line: &[u8], at: usize, out: &mut [u8]) -> usize
@@ -39,7 +39,7 @@ fn lerp(line: &[u8], at: usize, out: &mut [u8]) -> usize
     if !grammar::ended(line, to) {
         return 0;
     }
-    answers::floated(out, times::tweenable::lerp(a, b, amount))
+    answers::floated(out, tweenable::lerp(a, b, amount))
 }
 
 fn wave(line: &[u8], at: usize, out: &mut [u8]) -> usize
@@ -54,7 +54,7 @@ fn wave(line: &[u8], at: usize, out: &mut [u8]) -> usize
     if !grammar::ended(line, to) {
         return 0;
     }
-    answers::floated(out, tweens::waveform::wave(w, phase))
+    answers::floated(out, waveform::wave(w, phase))
 }
 
 fn secs(line: &[u8], at: usize, out: &mut [u8]) -> usize
@@ -66,7 +66,7 @@ fn secs(line: &[u8], at: usize, out: &mut [u8]) -> usize
     if !grammar::ended(line, to) {
         return 0;
     }
-    answers::floated(out, times::duration::secs(ns))
+    answers::floated(out, duration::secs(ns))
 }
 
 // A whole answer: START NS EASE.
@@ -89,7 +89,7 @@ fn default_tween(line: &[u8], at: usize, out: &mut [u8]) -> usize
     if !grammar::ended(line, at) {
         return 0;
     }
-    tween(out, tweens::tween::default_tween())
+    tween(out, tween::default_tween())
 }
 
 // The answer's length, or 0 where the line is no call of this family.

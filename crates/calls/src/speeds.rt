@@ -2,14 +2,14 @@
 ghost use mathlib.Core.Path.{_≡_};
 ghost use Rattle.digits.specs.Puts.{place, putAll};
 ghost use Rattle.calls.specs.Calls.{speedLerpReply, speedsOf};
+use clock_speed::ClockSpeed;
+use clock_speed::as_seconds_per_tick;
+use clock_speed::as_ticks_per_minute;
+use clock_speed::as_ticks_per_second;
+use clock_speed::lerp_speed;
 use grammar::FloatAt;
 use grammar::SpeedAt;
 use text::Word;
-use times::clock_speed::ClockSpeed;
-use times::clock_speed::as_seconds_per_tick;
-use times::clock_speed::as_ticks_per_minute;
-use times::clock_speed::as_ticks_per_second;
-use times::clock_speed::lerp_speed;
 
 fn lerp(line: &[u8], at: usize, a: ClockSpeed, out: &mut [u8]) -> usize
     ensures { λ r. ⌜ place (now (out .exit)) r ≡ putAll (place (now (out .entry)) 0) (speedLerpReply (now (line .entry)) at a) ⌝ }

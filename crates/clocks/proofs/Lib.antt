@@ -1,3 +1,3 @@
--- Laws that the crates above cite: `Slots` on a table of clocks and what a lookup finds in it, `Outcomes` on the statements themselves.
+-- Laws that the functions' proofs and the crates above cite: `Slots` on what a table of clocks tells of itself, `Outcomes` on the statements themselves.
 pub mod Slots
 pub mod Outcomes

@@ -1,46 +1,32 @@
 -- Any two outcomes that a statement allows coincide, for each public function of the crate: `One` of the crate `doubles` says it of the very clause that the check reads off the source. A clause says what the result is, or what it tells, and no two results tell the same. Assumes nothing.
 use mathlib.Core.Path.{_≡_}
 use Rattle.doubles.proofs.Outcomes.{One, equal}
-use Rattle.times.proofs.Outcomes.{told, same-speed, same-time}
+use Rattle.judge.proofs.Outcomes.{told}
+use Rattle.clock_speed.proofs.Outcomes.{same-speed}
+use Rattle.time.proofs.Outcomes.{same-time}
 use Rattle.clocks.specs.ClockTables.{toldFlag}
-use Rattle.clocks.specs.declared.clocks.Flagged.{Flagged}
-use Rattle.clocks.specs.declared.clocks.Flagged.the-variants as flagged
-use Rattle.clocks.proofs.clock.new_clock.Reads as new-clock
-use Rattle.clocks.proofs.clock.new_clock.Kinds as new-clock-kinds
-use Rattle.clocks.proofs.clock.position.Reads as position
-use Rattle.clocks.proofs.clock.position.Kinds as position-kinds
-use Rattle.clocks.proofs.clock.clock_info.Reads as clock-info
-use Rattle.clocks.proofs.clock.clock_info.Kinds as clock-info-kinds
-use Rattle.clocks.proofs.clock.with_ticking.Reads as with-ticking
-use Rattle.clocks.proofs.clock.with_ticking.Kinds as with-ticking-kinds
-use Rattle.clocks.proofs.clock.with_speed.Reads as with-speed
-use Rattle.clocks.proofs.clock.with_speed.Kinds as with-speed-kinds
-use Rattle.clocks.proofs.clock.reset.Reads as reset
-use Rattle.clocks.proofs.clock.reset.Kinds as reset-kinds
-use Rattle.clocks.proofs.clock.no_report.Reads as no-report
-use Rattle.clocks.proofs.clock.no_report.Kinds as no-report-kinds
-use Rattle.clocks.proofs.clock.update_clock.Reads as update-clock
-use Rattle.clocks.proofs.clock.update_clock.Kinds as update-clock-kinds
-use Rattle.clocks.proofs.clocks.no_clocks.Reads as no-clocks
-use Rattle.clocks.proofs.clocks.no_clocks.Kinds as no-clocks-kinds
-use Rattle.clocks.proofs.clocks.add_clock.Reads as add-clock
-use Rattle.clocks.proofs.clocks.add_clock.Kinds as add-clock-kinds
-use Rattle.clocks.proofs.clocks.remove_clock.Reads as remove-clock
-use Rattle.clocks.proofs.clocks.remove_clock.Kinds as remove-clock-kinds
-use Rattle.clocks.proofs.clocks.start_clock.Reads as start-clock
-use Rattle.clocks.proofs.clocks.start_clock.Kinds as start-clock-kinds
-use Rattle.clocks.proofs.clocks.stop_clock.Reads as stop-clock
-use Rattle.clocks.proofs.clocks.stop_clock.Kinds as stop-clock-kinds
-use Rattle.clocks.proofs.clocks.reset_clock.Reads as reset-clock
-use Rattle.clocks.proofs.clocks.reset_clock.Kinds as reset-clock-kinds
-use Rattle.clocks.proofs.clocks.set_speed.Reads as set-speed
-use Rattle.clocks.proofs.clocks.set_speed.Kinds as set-speed-kinds
-use Rattle.clocks.proofs.clocks.clock_time.Reads as clock-time
-use Rattle.clocks.proofs.clocks.clock_time.Kinds as clock-time-kinds
-use Rattle.clocks.proofs.clocks.clock_ticking.Reads as clock-ticking
-use Rattle.clocks.proofs.clocks.clock_ticking.Kinds as clock-ticking-kinds
-use Rattle.clocks.proofs.clocks.clock_speed.Reads as clock-speed
-use Rattle.clocks.proofs.clocks.clock_speed.Kinds as clock-speed-kinds
+use Rattle.clocks.specs.declared.Flagged.{Flagged}
+use Rattle.clocks.specs.declared.Flagged.the-variants as flagged
+use Rattle.clocks.proofs.no_clocks.Reads as no-clocks
+use Rattle.clocks.proofs.no_clocks.Kinds as no-clocks-kinds
+use Rattle.clocks.proofs.add_clock.Reads as add-clock
+use Rattle.clocks.proofs.add_clock.Kinds as add-clock-kinds
+use Rattle.clocks.proofs.remove_clock.Reads as remove-clock
+use Rattle.clocks.proofs.remove_clock.Kinds as remove-clock-kinds
+use Rattle.clocks.proofs.start_clock.Reads as start-clock
+use Rattle.clocks.proofs.start_clock.Kinds as start-clock-kinds
+use Rattle.clocks.proofs.stop_clock.Reads as stop-clock
+use Rattle.clocks.proofs.stop_clock.Kinds as stop-clock-kinds
+use Rattle.clocks.proofs.reset_clock.Reads as reset-clock
+use Rattle.clocks.proofs.reset_clock.Kinds as reset-clock-kinds
+use Rattle.clocks.proofs.set_speed.Reads as set-speed
+use Rattle.clocks.proofs.set_speed.Kinds as set-speed-kinds
+use Rattle.clocks.proofs.clock_time.Reads as clock-time
+use Rattle.clocks.proofs.clock_time.Kinds as clock-time-kinds
+use Rattle.clocks.proofs.clock_ticking.Reads as clock-ticking
+use Rattle.clocks.proofs.clock_ticking.Kinds as clock-ticking-kinds
+use Rattle.clocks.proofs.clock_speed.Reads as clock-speed
+use Rattle.clocks.proofs.clock_speed.Kinds as clock-speed-kinds
 
 -- two answers that tell the same are one
 same-flag : (x y : Flagged) → toldFlag x ≡ toldFlag y → x ≡ y
@@ -48,30 +34,6 @@ same-flag (flagged.Is i) (flagged.Is j) e = cc
 same-flag (flagged.Is i) (flagged.Refused n) e = cc
 same-flag (flagged.Refused m) (flagged.Is j) e = cc
 same-flag (flagged.Refused m) (flagged.Refused n) e = cc
-
-pub one-new-clock : One 0 new-clock-kinds.ps new-clock-kinds.r new-clock.Post
-one-new-clock κs a x y s t = equal
-
-pub one-position : One 0 position-kinds.ps position-kinds.r position.Post
-one-position κs a x y s t = equal
-
-pub one-clock-info : One 0 clock-info-kinds.ps clock-info-kinds.r clock-info.Post
-one-clock-info κs a x y s t = equal
-
-pub one-with-ticking : One 0 with-ticking-kinds.ps with-ticking-kinds.r with-ticking.Post
-one-with-ticking κs a x y s t = equal
-
-pub one-with-speed : One 0 with-speed-kinds.ps with-speed-kinds.r with-speed.Post
-one-with-speed κs a x y s t = equal
-
-pub one-reset : One 0 reset-kinds.ps reset-kinds.r reset.Post
-one-reset κs a x y s t = equal
-
-pub one-no-report : One 0 no-report-kinds.ps no-report-kinds.r no-report.Post
-one-no-report κs a x y s t = equal
-
-pub one-update-clock : One 0 update-clock-kinds.ps update-clock-kinds.r update-clock.Post
-one-update-clock κs a x y s t = equal
 
 pub one-no-clocks : One 0 no-clocks-kinds.ps no-clocks-kinds.r no-clocks.Post
 one-no-clocks κs a x y s t = equal

@@ -8,14 +8,14 @@ use denote.Laws.{Is}
 use denote.Struct.Declared.{row}
 use Rattle.tables.specs.declared.Found.{Found}
 use Rattle.tables.specs.declared.Found.the-variants as found
-use Rattle.times.specs.Answer.{accepted, refused}
-use Rattle.times.specs.declared.time.ClockId.{ClockId}
-use Rattle.info.proofs.Lengths.{found-below, found-read}
+use Rattle.judge.specs.Answer.{accepted, refused}
+use Rattle.time.specs.declared.ClockId.{ClockId}
+use Rattle.tables.proofs.Places.{found-below, found-read}
 use Rattle.clocks.specs.ClockTables.{refusedCall, whereIs, onFound, readFound}
-use Rattle.clocks.specs.declared.clock.Clock.{Clock}
-use Rattle.clocks.specs.declared.clocks.Clocks.{Clocks}
-use Rattle.clocks.specs.declared.clocks.ClockDone.{ClockDone}
-use Rattle.clocks.proofs.clocks.Clocks.{the-type}
+use Rattle.clock.specs.declared.Clock.{Clock}
+use Rattle.clocks.specs.declared.Clocks.{Clocks}
+use Rattle.clocks.specs.declared.ClockDone.{ClockDone}
+use Rattle.clocks.proofs.Clocks.{the-type}
 
 pub record Sixteen (t : Clocks) : Type 0 where
   pub keys : length (t .keys) ≡ 16

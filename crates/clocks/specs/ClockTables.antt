@@ -10,26 +10,26 @@ use Rattle.tables.specs.declared.Room.the-variants as room
 use Rattle.tables.specs.declared.Found.{Found}
 use Rattle.tables.specs.declared.Found.the-variants as found
 use Rattle.tables.specs.Lists.{readAt}
-use Rattle.times.specs.Answer.{Answer, accepted, refused}
-use Rattle.times.specs.Judge.{firstFault}
-use Rattle.times.specs.declared.clock_speed.ClockSpeed.{ClockSpeed}
-use Rattle.times.specs.declared.clock_speed.ClockSpeed.the-variants.{TicksPerSecond}
-use Rattle.times.specs.declared.time.ClockId.{ClockId}
-use Rattle.times.specs.declared.time.ClockTime.{ClockTime}
-use Rattle.tweens.specs.Values.{speedValueFaults}
-use Rattle.tweens.specs.declared.tween.Tween.{Tween}
-use Rattle.tweens.specs.declared.value.SpeedValue.{SpeedValue}
-use Rattle.tweens.specs.declared.value.SpeedValue.the-variants.{Fixed}
-use Rattle.parameters.specs.SpeedParameters.{changeOf}
-use Rattle.parameters.specs.declared.speed_parameter.SpeedSet.{SpeedSet}
-use Rattle.clocks.specs.OneClock.{newClock, positionOf, tickingOf, spedOf, resetOf}
-use Rattle.clocks.specs.declared.clock.Clock.{Clock}
-use Rattle.clocks.specs.declared.clocks.Clocks.{Clocks}
-use Rattle.clocks.specs.declared.clocks.ClockDone.{ClockDone}
-use Rattle.clocks.specs.declared.clocks.ClockNamed.the-variants as named
-use Rattle.clocks.specs.declared.clocks.ClockAdded.{ClockAdded}
-use Rattle.clocks.specs.declared.clocks.Flagged.{Flagged}
-use Rattle.clocks.specs.declared.clocks.Flagged.the-variants as flagged
+use Rattle.judge.specs.Answer.{Answer, accepted, refused}
+use Rattle.judge.specs.Judge.{firstFault}
+use Rattle.clock_speed.specs.declared.ClockSpeed.{ClockSpeed}
+use Rattle.clock_speed.specs.declared.ClockSpeed.the-variants.{TicksPerSecond}
+use Rattle.time.specs.declared.ClockId.{ClockId}
+use Rattle.time.specs.declared.ClockTime.{ClockTime}
+use Rattle.value.specs.Values.{speedValueFaults}
+use Rattle.tween.specs.declared.Tween.{Tween}
+use Rattle.value.specs.declared.SpeedValue.{SpeedValue}
+use Rattle.value.specs.declared.SpeedValue.the-variants.{Fixed}
+use Rattle.speed_parameter.specs.SpeedParameters.{changeOf}
+use Rattle.speed_parameter.specs.declared.SpeedSet.{SpeedSet}
+use Rattle.clock.specs.OneClock.{newClock, positionOf, tickingOf, spedOf, resetOf}
+use Rattle.clock.specs.declared.Clock.{Clock}
+use Rattle.clocks.specs.declared.Clocks.{Clocks}
+use Rattle.clocks.specs.declared.ClockDone.{ClockDone}
+use Rattle.clocks.specs.declared.ClockNamed.the-variants as named
+use Rattle.clocks.specs.declared.ClockAdded.{ClockAdded}
+use Rattle.clocks.specs.declared.Flagged.{Flagged}
+use Rattle.clocks.specs.declared.Flagged.the-variants as flagged
 
 -- what an unused slot holds before its first clock: as Rust's default clock, at rest
 abbrev pub noClocks : Clocks

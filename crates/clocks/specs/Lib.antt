@@ -1,2 +1,1 @@
 pub mod ClockTables
-pub mod OneClock

@@ -1,15 +1,15 @@
 -- The calls on the clocks as values: what each command answers, and what it leaves. Each is the call of its name. Assumes nothing.
 use mathlib.Core.Bool.{Bool, true, false, cond}
 use lib.Dec.{eqb}
-use Rattle.times.specs.Answer.{Answer, accepted, refused}
-use Rattle.times.specs.declared.clock_speed.ClockSpeed.{ClockSpeed}
-use Rattle.times.specs.declared.time.ClockTime.{ClockTime}
+use Rattle.judge.specs.Answer.{Answer, accepted, refused}
+use Rattle.clock_speed.specs.declared.ClockSpeed.{ClockSpeed}
+use Rattle.time.specs.declared.ClockTime.{ClockTime}
 use Rattle.clocks.specs.ClockTables.{addClockOf, removeOf, tickOnOf, resetClockOf, setSpeedOf, clockTimeOf, clockTickingOf, clockSpeedOf}
-use Rattle.clocks.specs.declared.clocks.Clocks.{Clocks}
-use Rattle.clocks.specs.declared.clocks.ClockDone.{ClockDone}
-use Rattle.clocks.specs.declared.clocks.ClockAdded.{ClockAdded}
-use Rattle.clocks.specs.declared.clocks.ClockNamed.{ClockNamed}
-use Rattle.clocks.specs.declared.clocks.ClockNamed.the-variants as named
+use Rattle.clocks.specs.declared.Clocks.{Clocks}
+use Rattle.clocks.specs.declared.ClockDone.{ClockDone}
+use Rattle.clocks.specs.declared.ClockAdded.{ClockAdded}
+use Rattle.clocks.specs.declared.ClockNamed.{ClockNamed}
+use Rattle.clocks.specs.declared.ClockNamed.the-variants as named
 use Rattle.commands.specs.declared.clock_command.ClockCommand.{ClockCommand}
 use Rattle.commands.specs.declared.clock_command.ClockCommand.the-variants as command
 use Rattle.commands.specs.declared.clock_command.ClockAnswer.{ClockAnswer}

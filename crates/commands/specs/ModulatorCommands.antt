@@ -2,7 +2,7 @@
 use mathlib.Core.Bool.{cond}
 use lib.Dec.{eqb}
 use lib.Ieee.{Float}
-use Rattle.times.specs.Answer.{Answer, accepted, refused}
+use Rattle.judge.specs.Answer.{Answer, accepted, refused}
 use Rattle.modulators.specs.ModulatorTables.{addTweenerOf, addLfoOf, removeOf, setTweenerAt, setParameterOf, setWaveformOf, setPhaseOf, modulatorValueOf}
 use Rattle.modulators.specs.declared.Modulators.{Modulators}
 use Rattle.modulators.specs.declared.ModulatorDone.{ModulatorDone}

@@ -1,30 +1,30 @@
 // The calls on the clocks as values.
 ghost use mathlib.Core.Path.{_≡_};
-ghost use Rattle.times.specs.Times.{toldTime};
-ghost use Rattle.times.specs.Speeds.{toldSpeed};
+ghost use Rattle.time.specs.Times.{toldTime};
+ghost use Rattle.clock_speed.specs.Speeds.{toldSpeed};
 ghost use Rattle.clocks.specs.ClockTables.{toldFlag};
 ghost use Rattle.commands.specs.ClockCommands.{addedAs, doneAs, timeAs, flagAs, speedAs, runClockOf};
-use clocks::clocks::ClockAdded;
-use clocks::clocks::ClockDone;
-use clocks::clocks::ClockNamed;
-use clocks::clocks::Clocks;
-use clocks::clocks::Flagged;
-use clocks::clocks::add_clock;
-use clocks::clocks::clock_speed;
-use clocks::clocks::clock_ticking;
-use clocks::clocks::clock_time;
-use clocks::clocks::remove_clock;
-use clocks::clocks::reset_clock;
-use clocks::clocks::set_speed;
-use clocks::clocks::start_clock;
-use clocks::clocks::stop_clock;
-use times::clock_speed::ClockSpeed;
-use times::clock_speed::Speeded;
-use times::time::ClockId;
-use times::time::ClockTime;
-use times::time::Timed;
-use tweens::tween::Tween;
-use tweens::value::SpeedValue;
+use clock_speed::ClockSpeed;
+use clock_speed::Speeded;
+use clocks::ClockAdded;
+use clocks::ClockDone;
+use clocks::ClockNamed;
+use clocks::Clocks;
+use clocks::Flagged;
+use clocks::add_clock;
+use clocks::clock_speed;
+use clocks::clock_ticking;
+use clocks::clock_time;
+use clocks::remove_clock;
+use clocks::reset_clock;
+use clocks::set_speed;
+use clocks::start_clock;
+use clocks::stop_clock;
+use time::ClockId;
+use time::ClockTime;
+use time::Timed;
+use tween::Tween;
+use value::SpeedValue;
 
 pub enum ClockCommand {
     Add(SpeedValue),

@@ -1,7 +1,8 @@
 // The calls on the modulators as values.
 ghost use mathlib.Core.Path.{_≡_};
-ghost use Rattle.times.specs.Answer.{toldFloat};
+ghost use Rattle.judge.specs.Answer.{toldFloat};
 ghost use Rattle.commands.specs.ModulatorCommands.{addedAs, doneAs, valueAs, runModulatorOf};
+use judge::Floated;
 use modulator::lfo::LfoBuilder;
 use modulator::lfo::LfoParameter;
 use modulators::ModulatorAdded;
@@ -16,11 +17,10 @@ use modulators::set_parameter;
 use modulators::set_phase;
 use modulators::set_tweener;
 use modulators::set_waveform;
-use times::judge::Floated;
-use tweens::tween::Tween;
-use tweens::value::FloatValue;
-use tweens::value::ModulatorId;
-use tweens::waveform::Waveform;
+use tween::Tween;
+use value::FloatValue;
+use value::ModulatorId;
+use waveform::Waveform;
 
 pub enum ModulatorCommand {
     AddTweener(f64),

@@ -6,9 +6,9 @@ use mathlib.Core.Logic.{_↔_}
 use mathlib.Core.List.{List, [], _∷_}
 use lib.Dec.{eqb}
 use borrow.Author.Tests.{eqb-true, eqb-false}
-use Rattle.times.specs.Judge.{firstFault}
+use Rattle.judge.specs.Judge.{firstFault}
 use Rattle.tables.specs.declared.Key.{Key}
-use Rattle.times.specs.declared.judge.Faults.{Faults}
+use Rattle.judge.specs.declared.Faults.{Faults}
 use Rattle.laws.specs.SoundStation.{All}
 use Rattle.demands.specs.Conditions.{everyTaken, ofId, ofAdd}
 use Rattle.demands.specs.Order.{order, holds, firstIn, before, among}

@@ -6,26 +6,26 @@ use lib.ListN.{length}
 use lib.Dec.{eqb}
 use Rattle.tables.specs.declared.Found.the-variants as found
 use Rattle.tables.specs.declared.Room.{Room}
-use Rattle.times.specs.Answer.{Answer, accepted, refused}
-use Rattle.times.specs.Judge.{noFaults, firstFault}
-use Rattle.times.specs.declared.clock_speed.ClockSpeed.{ClockSpeed}
-use Rattle.times.specs.declared.time.ClockId.{ClockId}
-use Rattle.times.specs.declared.time.ClockTime.{ClockTime}
-use Rattle.tweens.specs.Values.{speedValueFaults}
-use Rattle.tweens.specs.declared.value.SpeedValue.{SpeedValue}
-use Rattle.parameters.specs.SpeedParameters as speeds
-use Rattle.parameters.specs.declared.speed_parameter.SpeedSet.{SpeedSet}
-use Rattle.clocks.specs.OneClock.{tickingOf, spedOf, resetOf}
+use Rattle.judge.specs.Answer.{Answer, accepted, refused}
+use Rattle.judge.specs.Judge.{noFaults, firstFault}
+use Rattle.clock_speed.specs.declared.ClockSpeed.{ClockSpeed}
+use Rattle.time.specs.declared.ClockId.{ClockId}
+use Rattle.time.specs.declared.ClockTime.{ClockTime}
+use Rattle.value.specs.Values.{speedValueFaults}
+use Rattle.value.specs.declared.SpeedValue.{SpeedValue}
+use Rattle.speed_parameter.specs.SpeedParameters as speeds
+use Rattle.speed_parameter.specs.declared.SpeedSet.{SpeedSet}
+use Rattle.clock.specs.OneClock.{tickingOf, spedOf, resetOf}
 use Rattle.clocks.specs.ClockTables.{addAt, refusedAdd, addClockOf, whereIs, onFound, refusedCall, changed, freed, bySet, removeOf, tickOnOf, resetClockOf, setSpeedOf, readFound, clockTimeOf, clockTickingOf, clockSpeedOf, timeOf}
-use Rattle.clocks.specs.declared.clock.Clock.{Clock}
-use Rattle.clocks.specs.declared.clocks.Clocks.{Clocks}
-use Rattle.clocks.specs.declared.clocks.ClockDone.{ClockDone}
+use Rattle.clock.specs.declared.Clock.{Clock}
+use Rattle.clocks.specs.declared.Clocks.{Clocks}
+use Rattle.clocks.specs.declared.ClockDone.{ClockDone}
 use Rattle.commands.specs.ClockCommands.{addedAs, doneAs, timeAs, flagAs, speedAs, runClockOf}
 use Rattle.commands.specs.declared.clock_command.ClockAnswer.{ClockAnswer}
 use Rattle.commands.specs.declared.clock_command.ClockAnswer.the-variants as answer
 use Rattle.commands.specs.declared.clock_command.ClockCommand.{ClockCommand}
 use Rattle.commands.specs.declared.clock_command.ClockCommand.the-variants as command
-use Rattle.station.specs.declared.station.Station.{Station}
+use Rattle.station.specs.declared.Station.{Station}
 use Rattle.laws.specs.Calls.{clock, ofClock, keysOf, clockTold, numberIn, numberOf}
 use Rattle.laws.proofs.Entries.{Names, names-read, names-on}
 use Rattle.demands.specs.Entries.{numberTold}

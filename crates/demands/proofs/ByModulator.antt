@@ -6,15 +6,15 @@ use lib.ListN.{length}
 use lib.Dec.{eqb}
 use Rattle.tables.specs.declared.Found.the-variants as found
 use Rattle.tables.specs.declared.Room.{Room}
-use Rattle.times.specs.Answer.{accepted, refused}
-use Rattle.times.specs.Judge.{noFaults, bothFaults, floatFaults, firstFault}
-use Rattle.times.specs.declared.judge.Faults.{Faults}
-use Rattle.tweens.specs.Easings.{tweenFaults}
-use Rattle.tweens.specs.Values.{floatValueFaults}
-use Rattle.tweens.specs.Waves.{waveFaults}
-use Rattle.tweens.specs.declared.value.ModulatorId.{ModulatorId}
-use Rattle.parameters.specs.FloatParameters as floats
-use Rattle.parameters.specs.declared.float_parameter.FloatSet.{FloatSet}
+use Rattle.judge.specs.Answer.{accepted, refused}
+use Rattle.judge.specs.Judge.{noFaults, bothFaults, floatFaults, firstFault}
+use Rattle.judge.specs.declared.Faults.{Faults}
+use Rattle.tween.specs.Easings.{tweenFaults}
+use Rattle.value.specs.Values.{floatValueFaults}
+use Rattle.waveform.specs.Waves.{waveFaults}
+use Rattle.value.specs.declared.ModulatorId.{ModulatorId}
+use Rattle.float_parameter.specs.FloatParameters as floats
+use Rattle.float_parameter.specs.declared.FloatSet.{FloatSet}
 use Rattle.modulator.specs.Tweeners.{newTweener, setTweenerOf, tweenerFaults}
 use Rattle.modulator.specs.Lfos.{builderFaults, newLfo, parameterOf, withParameterOf, withWaveOf, withPhaseOf}
 use Rattle.modulator.specs.declared.lfo.Lfo.{Lfo}
@@ -30,7 +30,7 @@ use Rattle.commands.specs.declared.modulator_command.ModulatorAnswer.{Modulator
 use Rattle.commands.specs.declared.modulator_command.ModulatorAnswer.the-variants as answer
 use Rattle.commands.specs.declared.modulator_command.ModulatorCommand.{ModulatorCommand}
 use Rattle.commands.specs.declared.modulator_command.ModulatorCommand.the-variants as command
-use Rattle.station.specs.declared.station.Station.{Station}
+use Rattle.station.specs.declared.Station.{Station}
 use Rattle.laws.specs.Calls.{modulator, ofModulator, keysOf, modulatorTold, numberIn, numberOf}
 use Rattle.laws.proofs.Entries.{Holds, holds-read}
 use Rattle.demands.specs.Conditions.{everyTaken, noModulator, isTweener, isLfo, noneOf, ofModulators}

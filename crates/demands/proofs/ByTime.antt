@@ -5,11 +5,11 @@ use mathlib.Core.Bool.{Bool, true, false, not, _&&_, cond}
 use lib.Dec.{ltb, eqb}
 use lib.Ieee.{Float, nan, inf, fin, neg}
 use Rattle.doubles.specs.Doubles.{signOf}
-use Rattle.times.specs.Answer.{Answer, accepted, refused}
-use Rattle.times.specs.Judge.{bothFaults, floatFaults, fractionFaults, firstFault, judged}
-use Rattle.times.specs.Times.{addTicksOf, subTicksOf, laterOf, earlierOf, addFloatOf, subFloatOf}
-use Rattle.times.specs.declared.judge.Faults.{Faults}
-use Rattle.times.specs.declared.time.ClockTime.{ClockTime}
+use Rattle.judge.specs.Answer.{Answer, accepted, refused}
+use Rattle.judge.specs.Judge.{bothFaults, floatFaults, fractionFaults, firstFault, judged}
+use Rattle.time.specs.Times.{addTicksOf, subTicksOf, laterOf, earlierOf, addFloatOf, subFloatOf}
+use Rattle.judge.specs.declared.Faults.{Faults}
+use Rattle.time.specs.declared.ClockTime.{ClockTime}
 use Rattle.demands.specs.Entries.{Shift, addTicks, subTicks, addFloat, subFloat, shiftedOf, numberTold}
 use Rattle.demands.specs.Conditions.{past, pastBy, ofTime, ofShift}
 use Rattle.demands.specs.Order.{order, holds, firstIn}

@@ -5,13 +5,13 @@ use mathlib.Core.Bool.{Bool, true, false, _||_, cond, false≢true}
 use mathlib.Core.List.{List, [], _∷_, _++_}
 use lib.Dec.{leb}
 use lib.Ieee.{Float}
-use Rattle.times.specs.declared.time.ClockId.{ClockId}
-use Rattle.times.specs.declared.start_time.When.{When}
-use Rattle.times.specs.declared.start_time.When.the-variants.{Now, Later}
-use Rattle.times.specs.declared.start_time.StartTime.the-variants.{At}
-use Rattle.tweens.specs.declared.tween.Tween.{Tween}
+use Rattle.time.specs.declared.ClockId.{ClockId}
+use Rattle.start_time.specs.declared.When.{When}
+use Rattle.start_time.specs.declared.When.the-variants.{Now, Later}
+use Rattle.start_time.specs.declared.StartTime.the-variants.{At}
+use Rattle.tween.specs.declared.Tween.{Tween}
 use Rattle.station.specs.Stations.{infoIn}
-use Rattle.station.specs.declared.station.Station.{Station}
+use Rattle.station.specs.declared.Station.{Station}
 use Rattle.laws.specs.Calls.{after}
 use Rattle.laws.specs.SoundStation.{All}
 use Rattle.demands.specs.Events.{Event, call, update, moves, placeAt, advanceIn, advancesOf, total, sumsFrom, inOrder, dtsOf}

@@ -12,13 +12,13 @@ use lib.Ieee.Exact.{HasValue}
 use borrow.Author.Tests.{ltb-true}
 use Rattle.doubles.specs.Doubles.{oneF, signOf}
 use Rattle.tables.specs.Lists.{readAt}
-use Rattle.times.specs.Judge.{badFraction}
-use Rattle.times.specs.declared.time.ClockId.{ClockId}
-use Rattle.times.specs.declared.start_time.When.the-variants.{Now, Later, Never}
+use Rattle.judge.specs.Judge.{badFraction}
+use Rattle.time.specs.declared.ClockId.{ClockId}
+use Rattle.start_time.specs.declared.When.the-variants.{Now, Later, Never}
 use Rattle.info.specs.Infos.{dueOf, reachedOf, whenToStartOf}
-use Rattle.clocks.specs.OneClock.{infoOf, positionOf}
+use Rattle.clock.specs.OneClock.{infoOf, positionOf}
 use Rattle.station.specs.Stations.{infoIn}
-use Rattle.station.specs.declared.station.Station.{Station}
+use Rattle.station.specs.declared.Station.{Station}
 use Rattle.laws.proofs.Clear.{fraction-range}
 use Rattle.laws.proofs.Entries.{holds-read, names-where}
 use Rattle.demands.specs.Events.{scaled, placeAt}

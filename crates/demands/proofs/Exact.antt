@@ -21,7 +21,7 @@ use Rattle.ticks.specs.declared.Position.{Position}
 use Rattle.ticks.specs.declared.Taken.the-variants.{At, Full}
 use Rattle.ticks.proofs.Parts.{ticksOf, ticks-value, fract-value}
 use Rattle.ticks.proofs.Sums.{taken-room}
-use Rattle.times.specs.Judge.{badFraction}
+use Rattle.judge.specs.Judge.{badFraction}
 use Rattle.laws.proofs.Clear.{fraction-of, add-clear}
 use Rattle.demands.specs.Events.{scaled}
 use Rattle.demands.specs.Served.{Grid}

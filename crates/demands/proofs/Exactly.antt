@@ -7,25 +7,25 @@ use mathlib.Core.List.{List}
 use lib.ListN.{length}
 use lib.Dec.{eqb, ltb}
 use borrow.Author.Tests.{ltb-true, lt-ltb}
-use Rattle.times.specs.Answer.{accepted, refused}
-use Rattle.times.specs.Judge.{noFaults, bothFaults, badFraction, dtFaults, floatFaults, fractionFaults, firstFault, judged}
-use Rattle.times.specs.Speeds.{speedFaults}
-use Rattle.times.specs.Starts.{startFaults, startUpOf}
-use Rattle.times.specs.Times.{addTicksOf, subTicksOf}
-use Rattle.times.specs.declared.judge.Faults.{Faults}
-use Rattle.times.specs.declared.time.ClockId.{ClockId}
-use Rattle.times.specs.declared.time.ClockTime.{ClockTime}
-use Rattle.tweens.specs.Values.{floatValueFaults, speedValueFaults}
-use Rattle.parameters.specs.FloatParameters as floats
-use Rattle.parameters.specs.SpeedParameters as speeds
-use Rattle.parameters.specs.declared.float_parameter.FloatAdvanced.{FloatAdvanced}
-use Rattle.parameters.specs.declared.float_parameter.FloatSet.{FloatSet}
-use Rattle.parameters.specs.declared.speed_parameter.SpeedAdvanced.{SpeedAdvanced}
-use Rattle.parameters.specs.declared.speed_parameter.SpeedSet.{SpeedSet}
+use Rattle.judge.specs.Answer.{accepted, refused}
+use Rattle.judge.specs.Judge.{noFaults, bothFaults, badFraction, dtFaults, floatFaults, fractionFaults, firstFault, judged}
+use Rattle.clock_speed.specs.Speeds.{speedFaults}
+use Rattle.start_time.specs.Starts.{startFaults, startUpOf}
+use Rattle.time.specs.Times.{addTicksOf, subTicksOf}
+use Rattle.judge.specs.declared.Faults.{Faults}
+use Rattle.time.specs.declared.ClockId.{ClockId}
+use Rattle.time.specs.declared.ClockTime.{ClockTime}
+use Rattle.value.specs.Values.{floatValueFaults, speedValueFaults}
+use Rattle.float_parameter.specs.FloatParameters as floats
+use Rattle.speed_parameter.specs.SpeedParameters as speeds
+use Rattle.float_parameter.specs.declared.FloatAdvanced.{FloatAdvanced}
+use Rattle.float_parameter.specs.declared.FloatSet.{FloatSet}
+use Rattle.speed_parameter.specs.declared.SpeedAdvanced.{SpeedAdvanced}
+use Rattle.speed_parameter.specs.declared.SpeedSet.{SpeedSet}
 use Rattle.info.specs.Infos.{whenOf, rawFloatIn, rawSpeedIn}
 use Rattle.info.specs.ParametersIn.{updateFloatIn, updateSpeedIn}
-use Rattle.station.specs.Frames.{frameOf}
-use Rattle.station.specs.declared.station.Station.{Station}
+use Rattle.frame.specs.Frames.{frameOf}
+use Rattle.station.specs.declared.Station.{Station}
 use Rattle.report.specs.Reports.{unchanged, atStart, reportText, reportOf}
 use Rattle.laws.specs.Calls.{Call, clock, modulator, frame, refusal, done, numberIn, numberOf}
 use Rattle.laws.specs.SoundStation.{All}

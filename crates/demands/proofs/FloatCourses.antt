@@ -5,25 +5,25 @@ use mathlib.Core.Path.{_≡_, refl, sym, ap, _∙_}
 use mathlib.Core.Bool.{Bool, true, false, not, cond, true≢false}
 use lib.Dec.{eqb}
 use lib.Ieee.{Float}
-use Rattle.times.specs.Judge.{badDt, dtFaults, firstFault}
-use Rattle.times.specs.declared.start_time.StartTime.the-variants.{At}
-use Rattle.times.specs.declared.start_time.When.{When}
-use Rattle.times.specs.declared.time.ClockTime.{ClockTime}
-use Rattle.tweens.specs.declared.tween.Tween.{Tween}
-use Rattle.tweens.specs.declared.value.Input.{Input}
-use Rattle.tweens.specs.declared.value.FloatValue.{FloatValue}
-use Rattle.parameters.specs.Courses.{newCourse, stepOf}
-use Rattle.parameters.specs.FloatParameters.{setOf, setFaults, changeOf, byStep, byState, tweenedOf, updateOf, advanced, advanceOf}
-use Rattle.parameters.specs.declared.course.Course.{Course}
-use Rattle.parameters.specs.declared.course.Stepped.{Stepped}
-use Rattle.parameters.specs.declared.course.Stepped.the-variants.{Waits, Goes, Ends}
-use Rattle.parameters.specs.declared.float_parameter.FloatAdvanced.{FloatAdvanced}
-use Rattle.parameters.specs.declared.float_parameter.FloatParameter.{FloatParameter}
-use Rattle.parameters.specs.declared.float_parameter.FloatSet.{FloatSet}
-use Rattle.parameters.specs.declared.float_parameter.FloatState.{FloatState}
-use Rattle.parameters.specs.declared.float_parameter.FloatState.the-variants.{Idle, Tweening}
-use Rattle.parameters.specs.declared.float_parameter.FloatTweening.{FloatTweening}
-use Rattle.parameters.specs.declared.float_parameter.FloatUpdated.{FloatUpdated}
+use Rattle.judge.specs.Judge.{badDt, dtFaults, firstFault}
+use Rattle.start_time.specs.declared.StartTime.the-variants.{At}
+use Rattle.start_time.specs.declared.When.{When}
+use Rattle.time.specs.declared.ClockTime.{ClockTime}
+use Rattle.tween.specs.declared.Tween.{Tween}
+use Rattle.value.specs.declared.Input.{Input}
+use Rattle.value.specs.declared.FloatValue.{FloatValue}
+use Rattle.course.specs.Courses.{newCourse, stepOf}
+use Rattle.float_parameter.specs.FloatParameters.{setOf, setFaults, changeOf, byStep, byState, tweenedOf, updateOf, advanced, advanceOf}
+use Rattle.course.specs.declared.Course.{Course}
+use Rattle.course.specs.declared.Stepped.{Stepped}
+use Rattle.course.specs.declared.Stepped.the-variants.{Waits, Goes, Ends}
+use Rattle.float_parameter.specs.declared.FloatAdvanced.{FloatAdvanced}
+use Rattle.float_parameter.specs.declared.FloatParameter.{FloatParameter}
+use Rattle.float_parameter.specs.declared.FloatSet.{FloatSet}
+use Rattle.float_parameter.specs.declared.FloatState.{FloatState}
+use Rattle.float_parameter.specs.declared.FloatState.the-variants.{Idle, Tweening}
+use Rattle.float_parameter.specs.declared.FloatTweening.{FloatTweening}
+use Rattle.float_parameter.specs.declared.FloatUpdated.{FloatUpdated}
 use Rattle.info.specs.ParametersIn.{floatDueIn, floatSourceOf, updateFloatIn}
 use Rattle.info.specs.declared.info.Info.{Info}
 use Rattle.demands.specs.Kinds.{resting, running, floatProgress, floatKind}

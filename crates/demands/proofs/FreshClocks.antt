@@ -13,22 +13,22 @@ use Rattle.tables.specs.declared.Room.{Room}
 use Rattle.tables.specs.declared.Room.the-variants as room
 use Rattle.tables.proofs.Names.{add-lives}
 use Rattle.tables.proofs.Places.{read-set-same, room-inside}
-use Rattle.times.specs.Answer.{accepted, refused}
-use Rattle.times.specs.Judge.{firstFault}
-use Rattle.times.specs.declared.time.ClockId.{ClockId}
-use Rattle.tweens.specs.Values.{speedValueFaults}
-use Rattle.tweens.specs.declared.value.SpeedValue.{SpeedValue}
-use Rattle.clocks.specs.OneClock.{newClock}
+use Rattle.judge.specs.Answer.{accepted, refused}
+use Rattle.judge.specs.Judge.{firstFault}
+use Rattle.time.specs.declared.ClockId.{ClockId}
+use Rattle.value.specs.Values.{speedValueFaults}
+use Rattle.value.specs.declared.SpeedValue.{SpeedValue}
+use Rattle.clock.specs.OneClock.{newClock}
 use Rattle.clocks.specs.ClockTables.{addAt, refusedAdd, addClockOf}
-use Rattle.clocks.specs.declared.clock.Clock.{Clock}
-use Rattle.clocks.specs.declared.clock.ClockState.the-variants.{NotStarted}
-use Rattle.clocks.specs.declared.clocks.Clocks.{Clocks}
+use Rattle.clock.specs.declared.Clock.{Clock}
+use Rattle.clock.specs.declared.ClockState.the-variants.{NotStarted}
+use Rattle.clocks.specs.declared.Clocks.{Clocks}
 use Rattle.commands.specs.ClockCommands.{addedAs, runClockOf}
 use Rattle.commands.specs.declared.clock_command.ClockCommand.{ClockCommand}
 use Rattle.commands.specs.declared.clock_command.ClockCommand.the-variants as command
-use Rattle.station.specs.Frames.{frameOf}
+use Rattle.frame.specs.Frames.{frameOf}
 use Rattle.station.specs.Stations.{freshStation}
-use Rattle.station.specs.declared.station.Station.{Station}
+use Rattle.station.specs.declared.Station.{Station}
 use Rattle.laws.specs.Calls.{Call, clock, modulator, frame, after, afterAll, ofClock, named, clockTold, told}
 use Rattle.laws.specs.SoundStation.{All}
 use Rattle.laws.proofs.Entries.{Names, names-read}

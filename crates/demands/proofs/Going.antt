@@ -11,16 +11,16 @@ use lib.Ieee.{Float}
 use lib.Ieee.Fits.{mul-fits}
 use borrow.Author.Tests.{eq-eqb, ne-eqb}
 use Rattle.doubles.specs.Doubles.{zeroF}
-use Rattle.times.specs.Speeds.{tpsOf}
-use Rattle.times.specs.declared.time.ClockId.{ClockId}
-use Rattle.clocks.specs.OneClock.{positionOf, advanceOf}
-use Rattle.clocks.specs.declared.clock.Clock.{Clock}
-use Rattle.clocks.specs.declared.clock.ClockState.{ClockState}
+use Rattle.clock_speed.specs.Speeds.{tpsOf}
+use Rattle.time.specs.declared.ClockId.{ClockId}
+use Rattle.clock.specs.OneClock.{positionOf, advanceOf}
+use Rattle.clock.specs.declared.Clock.{Clock}
+use Rattle.clock.specs.declared.ClockState.{ClockState}
 use Rattle.commands.specs.ClockCommands.{runClockOf}
 use Rattle.commands.specs.declared.clock_command.ClockCommand.{ClockCommand}
 use Rattle.commands.specs.declared.clock_command.ClockCommand.the-variants as command
-use Rattle.station.specs.Frames.{frameOf}
-use Rattle.station.specs.declared.station.Station.{Station}
+use Rattle.frame.specs.Frames.{frameOf}
+use Rattle.station.specs.declared.Station.{Station}
 use Rattle.laws.specs.Calls.{Call, clock, modulator, frame, after}
 use Rattle.laws.specs.SoundStation.{All}
 use Rattle.laws.proofs.Entries.{Names, names-of, names-read}

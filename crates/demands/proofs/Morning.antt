@@ -14,20 +14,20 @@ use Rattle.tables.specs.Lists.{readAt}
 use Rattle.tables.specs.declared.Key.{Key}
 use Rattle.tables.proofs.Names.{later-rises, later-numbered}
 use Rattle.tables.proofs.Places.{read-set-other, lives-parts, gives}
-use Rattle.times.specs.Answer.{accepted}
-use Rattle.times.specs.declared.start_time.When.the-variants.{Never}
-use Rattle.times.specs.declared.time.ClockId.{ClockId}
-use Rattle.tweens.specs.declared.value.ModulatorId.{ModulatorId}
+use Rattle.judge.specs.Answer.{accepted}
+use Rattle.start_time.specs.declared.When.the-variants.{Never}
+use Rattle.time.specs.declared.ClockId.{ClockId}
+use Rattle.value.specs.declared.ModulatorId.{ModulatorId}
 use Rattle.info.specs.Infos.{dueOf, whenToStartOf}
-use Rattle.info.specs.declared.info.ClockInfo.{ClockInfo}
-use Rattle.clocks.specs.OneClock.{infoOf}
+use Rattle.clock.specs.declared.ClockInfo.{ClockInfo}
+use Rattle.clock.specs.OneClock.{infoOf}
 use Rattle.clocks.specs.ClockTables.{timeOf, clockTimeOf, clockTickingOf, clockSpeedOf}
-use Rattle.clocks.specs.declared.clock.Clock.{Clock}
+use Rattle.clock.specs.declared.Clock.{Clock}
 use Rattle.commands.specs.declared.clock_command.ClockCommand.{ClockCommand}
 use Rattle.commands.specs.declared.clock_command.ClockCommand.the-variants as clocks
 use Rattle.commands.specs.declared.modulator_command.ModulatorCommand.the-variants as modulators
 use Rattle.station.specs.Stations.{freshStation, infoIn}
-use Rattle.station.specs.declared.station.Station.{Station}
+use Rattle.station.specs.declared.Station.{Station}
 use Rattle.report.specs.Reports.{intoBuffer, reportText, reportOf}
 use Rattle.laws.specs.Calls.{Call, clock, modulator, after, afterAll, Kind, ofClock, ofModulator, keysOf, lives, numberOf, entry, clockTarget, targetOf, Touches}
 use Rattle.laws.proofs.Apart.{two-slots, apart}

@@ -12,24 +12,24 @@ use lib.Ieee.Fits.{up-pos}
 use borrow.Author.Tests.{eqb-true, eq-eqb}
 use Rattle.doubles.specs.Doubles.{finiteOf, zeroF}
 use Rattle.tables.specs.Lists.{readAt}
-use Rattle.times.specs.Answer.{accepted}
-use Rattle.times.specs.Judge.{noFaults, bothFaults, firstFault}
-use Rattle.times.specs.Speeds.{badReading, faultsOfSpeed, readFaults}
-use Rattle.times.specs.declared.judge.Faults.{Faults}
-use Rattle.times.specs.declared.clock_speed.ClockSpeed.{ClockSpeed}
-use Rattle.times.specs.declared.clock_speed.ClockSpeed.the-variants.{SecondsPerTick, TicksPerSecond, TicksPerMinute}
-use Rattle.times.specs.declared.time.ClockId.{ClockId}
-use Rattle.tweens.specs.Easings.{tweenFaults}
-use Rattle.tweens.specs.Values.{speedValueFaults}
-use Rattle.tweens.specs.declared.tween.Tween.{Tween}
-use Rattle.tweens.specs.declared.value.SpeedValue.{SpeedValue}
-use Rattle.parameters.specs.SpeedParameters.{setOf, targetUnit, setFaults, changeOf}
-use Rattle.parameters.specs.declared.speed_parameter.SpeedParameter.{SpeedParameter}
-use Rattle.parameters.specs.declared.speed_parameter.SpeedSet.{SpeedSet}
+use Rattle.judge.specs.Answer.{accepted}
+use Rattle.judge.specs.Judge.{noFaults, bothFaults, firstFault}
+use Rattle.clock_speed.specs.Speeds.{badReading, faultsOfSpeed, readFaults}
+use Rattle.judge.specs.declared.Faults.{Faults}
+use Rattle.clock_speed.specs.declared.ClockSpeed.{ClockSpeed}
+use Rattle.clock_speed.specs.declared.ClockSpeed.the-variants.{SecondsPerTick, TicksPerSecond, TicksPerMinute}
+use Rattle.time.specs.declared.ClockId.{ClockId}
+use Rattle.tween.specs.Easings.{tweenFaults}
+use Rattle.value.specs.Values.{speedValueFaults}
+use Rattle.tween.specs.declared.Tween.{Tween}
+use Rattle.value.specs.declared.SpeedValue.{SpeedValue}
+use Rattle.speed_parameter.specs.SpeedParameters.{setOf, targetUnit, setFaults, changeOf}
+use Rattle.speed_parameter.specs.declared.SpeedParameter.{SpeedParameter}
+use Rattle.speed_parameter.specs.declared.SpeedSet.{SpeedSet}
 use Rattle.clocks.specs.ClockTables.{refusedCall, whereIs, bySet, setSpeedOf, readFound}
-use Rattle.clocks.specs.declared.clock.Clock.{Clock}
-use Rattle.clocks.specs.declared.clocks.Clocks.{Clocks}
-use Rattle.clocks.specs.declared.clocks.ClockDone.{ClockDone}
+use Rattle.clock.specs.declared.Clock.{Clock}
+use Rattle.clocks.specs.declared.Clocks.{Clocks}
+use Rattle.clocks.specs.declared.ClockDone.{ClockDone}
 use Rattle.station.specs.Stations.{freshStation}
 use Rattle.laws.specs.Calls.{Call, afterAll}
 use Rattle.laws.specs.SoundStation.{All, CallDoubles, Ticks}

@@ -10,11 +10,11 @@ use lib.Ieee.{Float, nan, inf, fin, up, down, lt, eq}
 use lib.Ieee.Exact.{HasValue}
 use lib.Ieee.Fits.{down-pos}
 use borrow.Author.Tests.{lt-ltb, le-ltb, le-leb, lt-leb, eq-eqb}
-use Rattle.times.specs.Times.{orderFractions, orderOf}
-use Rattle.times.specs.declared.time.ClockTime.{ClockTime}
-use Rattle.times.proofs.Orders.{compare-lt, compare-eq, compare-gt}
+use Rattle.time.specs.Times.{orderFractions, orderOf}
+use Rattle.time.specs.declared.ClockTime.{ClockTime}
+use Rattle.duration.proofs.Compares.{compare-lt, compare-eq, compare-gt}
 use Rattle.info.specs.Infos.{atOrPast, reachedOf}
-use Rattle.info.specs.declared.info.ClockInfo.{ClockInfo}
+use Rattle.clock.specs.declared.ClockInfo.{ClockInfo}
 
 -- a number is below, at or above another
 three : {P : Type 0} (a b : ℕ) → (a < b → P) → (a ≡ b → P) → (b < a → P) → P

@@ -5,7 +5,7 @@ use mathlib.Core.Bool.{Bool, true, false, cond}
 use mathlib.Core.List.{List}
 use lib.Dec.{ltb}
 use lib.ListN.{length}
-use Rattle.times.specs.Answer.{Answer, accepted, refused}
+use Rattle.judge.specs.Answer.{Answer, accepted, refused}
 use Rattle.clocks.specs.ClockTables.{readFound, whereIs}
 use Rattle.info.specs.ParametersIn.{floatDueOf, floatSourceOf, updateFloatIn, speedDueOf, speedSourceOf, updateSpeedIn}
 use Rattle.station.specs.Stations.{infoIn}

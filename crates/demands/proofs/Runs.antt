@@ -7,13 +7,13 @@ use mathlib.Core.Bool.{Bool, true, false, not, _&&_, _||_, cond, true≢false, f
 use mathlib.Core.List.{List, [], _∷_, _++_, map}
 use lib.Dec.{eqb, leb}
 use lib.Ieee.{Float}
-use Rattle.times.specs.Judge.{badDt}
-use Rattle.times.specs.declared.time.ClockId.{ClockId}
-use Rattle.times.specs.declared.start_time.When.the-variants.{Now, Later}
-use Rattle.parameters.specs.Courses.{isNow}
-use Rattle.clocks.specs.OneClock.{advanceOf}
-use Rattle.station.specs.Frames.{frameOf}
-use Rattle.station.specs.declared.station.Station.{Station}
+use Rattle.judge.specs.Judge.{badDt}
+use Rattle.time.specs.declared.ClockId.{ClockId}
+use Rattle.start_time.specs.declared.When.the-variants.{Now, Later}
+use Rattle.course.specs.Courses.{isNow}
+use Rattle.clock.specs.OneClock.{advanceOf}
+use Rattle.frame.specs.Frames.{frameOf}
+use Rattle.station.specs.declared.Station.{Station}
 use Rattle.laws.specs.Calls.{Call, clock, modulator, frame, after}
 use Rattle.laws.specs.SoundStation.{All}
 use Rattle.laws.proofs.Entries.{names-read}

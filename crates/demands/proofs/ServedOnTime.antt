@@ -5,16 +5,16 @@ use mathlib.Core.Path.{_≡_, ap, _∙_}
 use mathlib.Core.Bool.{false}
 use mathlib.Core.List.{List}
 use lib.Ieee.{Float}
-use Rattle.times.specs.Judge.{badFraction}
-use Rattle.times.specs.declared.time.ClockId.{ClockId}
-use Rattle.times.specs.declared.start_time.StartTime.the-variants.{At}
-use Rattle.tweens.specs.declared.tween.Tween.{Tween}
-use Rattle.parameters.specs.Courses.{newCourse}
-use Rattle.parameters.specs.FloatParameters as floats
-use Rattle.parameters.specs.SpeedParameters as speeds
-use Rattle.clocks.specs.OneClock.{positionOf}
+use Rattle.judge.specs.Judge.{badFraction}
+use Rattle.time.specs.declared.ClockId.{ClockId}
+use Rattle.start_time.specs.declared.StartTime.the-variants.{At}
+use Rattle.tween.specs.declared.Tween.{Tween}
+use Rattle.course.specs.Courses.{newCourse}
+use Rattle.float_parameter.specs.FloatParameters as floats
+use Rattle.speed_parameter.specs.SpeedParameters as speeds
+use Rattle.clock.specs.OneClock.{positionOf}
 use Rattle.clocks.specs.ClockTables.{timeOf, clockTimeOf}
-use Rattle.station.specs.declared.station.Station.{Station}
+use Rattle.station.specs.declared.Station.{Station}
 use Rattle.laws.specs.Sound.{Double}
 use Rattle.laws.specs.SoundStation.{All}
 use Rattle.laws.proofs.Entries.{names-read}

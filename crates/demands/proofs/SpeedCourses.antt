@@ -5,25 +5,25 @@ use mathlib.Core.Path.{_≡_, refl, sym, ap, _∙_}
 use mathlib.Core.Bool.{Bool, true, false, not, cond, true≢false}
 use lib.Dec.{eqb}
 use lib.Ieee.{Float}
-use Rattle.times.specs.Judge.{badDt, dtFaults, firstFault}
-use Rattle.times.specs.declared.start_time.StartTime.the-variants.{At}
-use Rattle.times.specs.declared.start_time.When.{When}
-use Rattle.times.specs.declared.time.ClockTime.{ClockTime}
-use Rattle.tweens.specs.declared.tween.Tween.{Tween}
-use Rattle.tweens.specs.declared.value.Input.{Input}
-use Rattle.tweens.specs.declared.value.SpeedValue.{SpeedValue}
-use Rattle.parameters.specs.Courses.{newCourse, stepOf}
-use Rattle.parameters.specs.SpeedParameters.{setOf, setFaults, changeOf, byStep, byState, tweenedOf, updateOf, advanced, advanceOf}
-use Rattle.parameters.specs.declared.course.Course.{Course}
-use Rattle.parameters.specs.declared.course.Stepped.{Stepped}
-use Rattle.parameters.specs.declared.course.Stepped.the-variants.{Waits, Goes, Ends}
-use Rattle.parameters.specs.declared.speed_parameter.SpeedAdvanced.{SpeedAdvanced}
-use Rattle.parameters.specs.declared.speed_parameter.SpeedParameter.{SpeedParameter}
-use Rattle.parameters.specs.declared.speed_parameter.SpeedSet.{SpeedSet}
-use Rattle.parameters.specs.declared.speed_parameter.SpeedState.{SpeedState}
-use Rattle.parameters.specs.declared.speed_parameter.SpeedState.the-variants.{Idle, Tweening}
-use Rattle.parameters.specs.declared.speed_parameter.SpeedTweening.{SpeedTweening}
-use Rattle.parameters.specs.declared.speed_parameter.SpeedUpdated.{SpeedUpdated}
+use Rattle.judge.specs.Judge.{badDt, dtFaults, firstFault}
+use Rattle.start_time.specs.declared.StartTime.the-variants.{At}
+use Rattle.start_time.specs.declared.When.{When}
+use Rattle.time.specs.declared.ClockTime.{ClockTime}
+use Rattle.tween.specs.declared.Tween.{Tween}
+use Rattle.value.specs.declared.Input.{Input}
+use Rattle.value.specs.declared.SpeedValue.{SpeedValue}
+use Rattle.course.specs.Courses.{newCourse, stepOf}
+use Rattle.speed_parameter.specs.SpeedParameters.{setOf, setFaults, changeOf, byStep, byState, tweenedOf, updateOf, advanced, advanceOf}
+use Rattle.course.specs.declared.Course.{Course}
+use Rattle.course.specs.declared.Stepped.{Stepped}
+use Rattle.course.specs.declared.Stepped.the-variants.{Waits, Goes, Ends}
+use Rattle.speed_parameter.specs.declared.SpeedAdvanced.{SpeedAdvanced}
+use Rattle.speed_parameter.specs.declared.SpeedParameter.{SpeedParameter}
+use Rattle.speed_parameter.specs.declared.SpeedSet.{SpeedSet}
+use Rattle.speed_parameter.specs.declared.SpeedState.{SpeedState}
+use Rattle.speed_parameter.specs.declared.SpeedState.the-variants.{Idle, Tweening}
+use Rattle.speed_parameter.specs.declared.SpeedTweening.{SpeedTweening}
+use Rattle.speed_parameter.specs.declared.SpeedUpdated.{SpeedUpdated}
 use Rattle.info.specs.ParametersIn.{speedDueIn, speedSourceOf, updateSpeedIn}
 use Rattle.info.specs.declared.info.Info.{Info}
 use Rattle.demands.specs.Kinds.{resting, running, speedProgress, speedKind}

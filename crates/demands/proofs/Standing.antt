@@ -12,15 +12,15 @@ use Rattle.ticks.specs.WholeTicks.{takenOf}
 use Rattle.ticks.specs.declared.Position.{Position}
 use Rattle.ticks.specs.declared.Taken.{Taken}
 use Rattle.ticks.specs.declared.Taken.the-variants.{At, Full}
-use Rattle.parameters.specs.SpeedParameters.{updateOf}
-use Rattle.parameters.specs.declared.speed_parameter.SpeedParameter.{SpeedParameter}
+use Rattle.speed_parameter.specs.SpeedParameters.{updateOf}
+use Rattle.speed_parameter.specs.declared.SpeedParameter.{SpeedParameter}
 use Rattle.info.specs.ParametersIn.{speedDueOf, speedSourceOf}
-use Rattle.clocks.specs.OneClock.{positionOf, freshOf, advanceOf, sumOf, noReport, movedTo, byTaken, tickOf, updateClockOf}
-use Rattle.clocks.specs.declared.clock.Clock.{Clock}
-use Rattle.clocks.specs.declared.clock.ClockState.the-variants.{Started}
-use Rattle.clocks.specs.declared.clock.Moved.the-variants.{Is, Refused}
-use Rattle.clocks.specs.declared.clock.Ticked.{Ticked}
-use Rattle.station.specs.Turns.{turnClock}
+use Rattle.clock.specs.OneClock.{positionOf, freshOf, advanceOf, sumOf, noReport, movedTo, byTaken, tickOf, updateClockOf}
+use Rattle.clock.specs.declared.Clock.{Clock}
+use Rattle.clock.specs.declared.ClockState.the-variants.{Started}
+use Rattle.clock.specs.declared.Moved.the-variants.{Is, Refused}
+use Rattle.clock.specs.declared.Ticked.{Ticked}
+use Rattle.turns.specs.Turns.{turnClock}
 use Rattle.laws.proofs.OneTurn.{Turned}
 use Rattle.demands.specs.Events.{scaled, placeAt}
 use Rattle.demands.proofs.Exact.{Parts, parts-scaled, OnGrid, add-parts, took}

@@ -5,20 +5,20 @@ use mathlib.Core.Bool.{Bool, true, false, not, cond}
 use lib.Dec.{eqb}
 use lib.Ieee.{Float, binary64, add, le}
 use borrow.Author.Tests.{eqb-false}
-use Rattle.times.specs.Durations.{secondsOf}
-use Rattle.times.specs.Judge.{badDt, dtFaults, firstFault}
-use Rattle.times.specs.declared.time.ClockTime.{ClockTime}
-use Rattle.times.specs.declared.start_time.StartTime.{StartTime}
-use Rattle.times.specs.declared.start_time.StartTime.the-variants.{At}
-use Rattle.times.specs.declared.start_time.When.{When}
-use Rattle.times.specs.declared.start_time.When.the-variants.{Now, Later}
-use Rattle.tweens.specs.declared.tween.Easing.{Easing}
-use Rattle.tweens.specs.declared.tween.Tween.{Tween}
-use Rattle.tweens.specs.declared.value.Input.{Input}
-use Rattle.parameters.specs.Courses.{stepOf}
-use Rattle.parameters.specs.declared.course.Course.{Course}
-use Rattle.parameters.specs.declared.course.Stepped.{Stepped}
-use Rattle.parameters.specs.declared.course.Stepped.the-variants.{Waits, Goes, Ends}
+use Rattle.duration.specs.Durations.{secondsOf}
+use Rattle.judge.specs.Judge.{badDt, dtFaults, firstFault}
+use Rattle.time.specs.declared.ClockTime.{ClockTime}
+use Rattle.start_time.specs.declared.StartTime.{StartTime}
+use Rattle.start_time.specs.declared.StartTime.the-variants.{At}
+use Rattle.start_time.specs.declared.When.{When}
+use Rattle.start_time.specs.declared.When.the-variants.{Now, Later}
+use Rattle.tween.specs.declared.Easing.{Easing}
+use Rattle.tween.specs.declared.Tween.{Tween}
+use Rattle.value.specs.declared.Input.{Input}
+use Rattle.course.specs.Courses.{stepOf}
+use Rattle.course.specs.declared.Course.{Course}
+use Rattle.course.specs.declared.Stepped.{Stepped}
+use Rattle.course.specs.declared.Stepped.the-variants.{Waits, Goes, Ends}
 use Rattle.info.specs.Infos.{startDueOf, whenToStartOf}
 use Rattle.info.specs.ParametersIn.{courseDueOf}
 use Rattle.info.specs.declared.info.Info.{Info}

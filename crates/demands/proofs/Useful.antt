@@ -9,22 +9,22 @@ use Rattle.doubles.specs.Doubles.{zeroF, oneF}
 use Rattle.tables.specs.Keys.{freeOf, livesIn, findOf}
 use Rattle.tables.specs.Lists.{readAt}
 use Rattle.ticks.specs.WholeTicks.{roomFor, takenOf}
-use Rattle.times.specs.Answer.{Answer, accepted, refused}
-use Rattle.times.specs.Judge.{firstFault}
-use Rattle.times.specs.declared.clock_speed.ClockSpeed.the-variants.{TicksPerSecond}
-use Rattle.times.specs.declared.time.ClockId.{ClockId}
-use Rattle.times.specs.declared.time.ClockTime.{ClockTime}
-use Rattle.tweens.specs.declared.value.SpeedValue.{SpeedValue}
-use Rattle.tweens.specs.declared.value.SpeedValue.the-variants.{Fixed}
-use Rattle.parameters.specs.SpeedParameters as speeds
-use Rattle.clocks.specs.OneClock.{tickOf, updateClockOf}
+use Rattle.judge.specs.Answer.{Answer, accepted, refused}
+use Rattle.judge.specs.Judge.{firstFault}
+use Rattle.clock_speed.specs.declared.ClockSpeed.the-variants.{TicksPerSecond}
+use Rattle.time.specs.declared.ClockId.{ClockId}
+use Rattle.time.specs.declared.ClockTime.{ClockTime}
+use Rattle.value.specs.declared.SpeedValue.{SpeedValue}
+use Rattle.value.specs.declared.SpeedValue.the-variants.{Fixed}
+use Rattle.speed_parameter.specs.SpeedParameters as speeds
+use Rattle.clock.specs.OneClock.{tickOf, updateClockOf}
 use Rattle.clocks.specs.ClockTables.{addClockOf, tickOnOf, timeOf, clockTimeOf}
 use Rattle.commands.specs.ClockCommands.{runClockOf}
 use Rattle.commands.specs.declared.clock_command.ClockCommand.the-variants.{Add, Start}
-use Rattle.station.specs.Frames.{modulatorTurns, modulatorsTurned, clockTurns, clocksTurned, frameOf}
+use Rattle.frame.specs.Frames.{modulatorTurns, modulatorsTurned, clockTurns, clocksTurned, frameOf}
 use Rattle.station.specs.Stations.{freshStation, infoIn}
-use Rattle.station.specs.Turns.{turnClock}
-use Rattle.station.specs.declared.station.Station.{Station}
+use Rattle.turns.specs.Turns.{turnClock}
+use Rattle.station.specs.declared.Station.{Station}
 use Rattle.laws.specs.Calls.{clock, frame, after, numberOf}
 use Rattle.laws.specs.SoundStation.{All}
 use Rattle.laws.proofs.Entries.{names-read}

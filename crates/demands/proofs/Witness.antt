@@ -11,27 +11,27 @@ use Rattle.doubles.specs.Doubles.{zeroF, oneF, halfF}
 use Rattle.tables.specs.Keys.{freeOf, livesIn, findOf}
 use Rattle.tables.specs.Lists.{readAt}
 use Rattle.ticks.specs.WholeTicks.{roomFor, takenOf}
-use Rattle.times.specs.Durations.{secondsOf}
-use Rattle.times.specs.Judge.{firstFault}
-use Rattle.times.specs.Speeds.{interpolateSpeedOf}
-use Rattle.times.specs.Times.{orderOf}
-use Rattle.times.specs.declared.clock_speed.ClockSpeed.the-variants.{TicksPerSecond}
-use Rattle.times.specs.declared.start_time.StartTime.the-variants.{Immediate, At}
-use Rattle.times.specs.declared.time.ClockId.{ClockId}
-use Rattle.tweens.specs.Easings.{applyOf, tweenValueOf}
-use Rattle.tweens.specs.Values.{amountOf, mapSpeedOf}
-use Rattle.tweens.specs.declared.tween.Easing.the-variants.{Linear}
-use Rattle.tweens.specs.declared.tween.Tween.{Tween}
-use Rattle.tweens.specs.declared.value.FloatValue.the-variants as float
-use Rattle.tweens.specs.declared.value.SpeedValue.{SpeedValue}
-use Rattle.tweens.specs.declared.value.SpeedValue.the-variants as speed
-use Rattle.parameters.specs.Courses.{newCourse, stepOf}
-use Rattle.parameters.specs.FloatParameters as floats
-use Rattle.parameters.specs.SpeedParameters as speeds
-use Rattle.parameters.specs.declared.float_parameter.FloatParameter.{FloatParameter}
+use Rattle.duration.specs.Durations.{secondsOf}
+use Rattle.judge.specs.Judge.{firstFault}
+use Rattle.clock_speed.specs.Speeds.{interpolateSpeedOf}
+use Rattle.time.specs.Times.{orderOf}
+use Rattle.clock_speed.specs.declared.ClockSpeed.the-variants.{TicksPerSecond}
+use Rattle.start_time.specs.declared.StartTime.the-variants.{Immediate, At}
+use Rattle.time.specs.declared.ClockId.{ClockId}
+use Rattle.tween.specs.Easings.{applyOf, tweenValueOf}
+use Rattle.value.specs.Values.{amountOf, mapSpeedOf}
+use Rattle.tween.specs.declared.Easing.the-variants.{Linear}
+use Rattle.tween.specs.declared.Tween.{Tween}
+use Rattle.value.specs.declared.FloatValue.the-variants as float
+use Rattle.value.specs.declared.SpeedValue.{SpeedValue}
+use Rattle.value.specs.declared.SpeedValue.the-variants as speed
+use Rattle.course.specs.Courses.{newCourse, stepOf}
+use Rattle.float_parameter.specs.FloatParameters as floats
+use Rattle.speed_parameter.specs.SpeedParameters as speeds
+use Rattle.float_parameter.specs.declared.FloatParameter.{FloatParameter}
 use Rattle.info.specs.ParametersIn.{updateFloatIn}
 use Rattle.info.specs.Infos.{whenToStartOf, modulatorValueOf}
-use Rattle.clocks.specs.OneClock.{tickOf, updateClockOf}
+use Rattle.clock.specs.OneClock.{tickOf, updateClockOf}
 use Rattle.clocks.specs.ClockTables.{addClockOf, removeOf, tickOnOf, setSpeedOf}
 use Rattle.modulator.specs.Tweeners.{updateTweenerOf}
 use Rattle.modulators.specs.ModulatorTables.{putOf, addTweenerOf}
@@ -39,10 +39,10 @@ use Rattle.commands.specs.ClockCommands.{runClockOf}
 use Rattle.commands.specs.ModulatorCommands.{runModulatorOf}
 use Rattle.commands.specs.declared.clock_command.ClockCommand.the-variants as command
 use Rattle.commands.specs.declared.modulator_command.ModulatorCommand.the-variants as modulators
-use Rattle.station.specs.Frames.{modulatorTurns, modulatorsTurned, clockTurns, clocksTurned, frameOf}
+use Rattle.frame.specs.Frames.{modulatorTurns, modulatorsTurned, clockTurns, clocksTurned, frameOf}
 use Rattle.station.specs.Stations.{freshStation, infoIn}
-use Rattle.station.specs.Turns.{turnClock, turnModulator}
-use Rattle.station.specs.declared.station.Station.{Station}
+use Rattle.turns.specs.Turns.{turnClock, turnModulator}
+use Rattle.station.specs.declared.Station.{Station}
 use Rattle.laws.specs.Calls.{Call, clock, modulator, frame, after, afterAll, ofClock, named, told, numberOf}
 use Rattle.laws.specs.SoundStation.{All}
 use Rattle.demands.specs.Events.{Event, call, update, moves, scaled, placeAt, advanceIn, advancesOf, total, sumsFrom, inOrder, testsOf, at, firstPass, firstReach}

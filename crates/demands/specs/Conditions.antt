@@ -12,27 +12,27 @@ use Rattle.tables.specs.declared.Key.{Key}
 use Rattle.ticks.specs.WholeTicks.{takenOf}
 use Rattle.ticks.specs.declared.Taken.{Taken}
 use Rattle.ticks.specs.declared.Taken.the-variants as taken
-use Rattle.times.specs.Answer.{Answer, accepted, refused}
-use Rattle.times.specs.Judge.{noFaults, bothFaults, dtFaults, floatFaults, fractionFaults}
-use Rattle.times.specs.Speeds.{speedFaults}
-use Rattle.times.specs.Starts.{startFaults}
-use Rattle.times.specs.declared.judge.Faults.{Faults}
-use Rattle.times.specs.declared.time.ClockId.{ClockId}
-use Rattle.times.specs.declared.time.ClockTime.{ClockTime}
-use Rattle.tweens.specs.Easings.{tweenFaults}
-use Rattle.tweens.specs.Values.{floatValueFaults, speedValueFaults}
-use Rattle.tweens.specs.Waves.{waveFaults}
-use Rattle.tweens.specs.declared.tween.Tween.{Tween}
-use Rattle.tweens.specs.declared.value.ModulatorId.{ModulatorId}
-use Rattle.tweens.specs.declared.value.SpeedValue.{SpeedValue}
-use Rattle.parameters.specs.FloatParameters as floats
-use Rattle.parameters.specs.SpeedParameters as speeds
-use Rattle.parameters.specs.declared.speed_parameter.SpeedParameter.{SpeedParameter}
+use Rattle.judge.specs.Answer.{Answer, accepted, refused}
+use Rattle.judge.specs.Judge.{noFaults, bothFaults, dtFaults, floatFaults, fractionFaults}
+use Rattle.clock_speed.specs.Speeds.{speedFaults}
+use Rattle.start_time.specs.Starts.{startFaults}
+use Rattle.judge.specs.declared.Faults.{Faults}
+use Rattle.time.specs.declared.ClockId.{ClockId}
+use Rattle.time.specs.declared.ClockTime.{ClockTime}
+use Rattle.tween.specs.Easings.{tweenFaults}
+use Rattle.value.specs.Values.{floatValueFaults, speedValueFaults}
+use Rattle.waveform.specs.Waves.{waveFaults}
+use Rattle.tween.specs.declared.Tween.{Tween}
+use Rattle.value.specs.declared.ModulatorId.{ModulatorId}
+use Rattle.value.specs.declared.SpeedValue.{SpeedValue}
+use Rattle.float_parameter.specs.FloatParameters as floats
+use Rattle.speed_parameter.specs.SpeedParameters as speeds
+use Rattle.speed_parameter.specs.declared.SpeedParameter.{SpeedParameter}
 use Rattle.info.specs.ParametersIn.{speedDueOf, speedSourceOf}
 use Rattle.info.specs.declared.info.Info.{Info}
-use Rattle.clocks.specs.OneClock.{positionOf, advanceOf, sumOf}
-use Rattle.clocks.specs.declared.clock.Clock.{Clock}
-use Rattle.clocks.specs.declared.clock.Reported.{Reported}
+use Rattle.clock.specs.OneClock.{positionOf, advanceOf, sumOf}
+use Rattle.clock.specs.declared.Clock.{Clock}
+use Rattle.clock.specs.declared.Reported.{Reported}
 use Rattle.modulator.specs.Tweeners.{tweenerFaults}
 use Rattle.modulator.specs.Lfos.{builderFaults}
 use Rattle.modulators.specs.declared.Modulator.{Modulator}
@@ -41,9 +41,9 @@ use Rattle.commands.specs.declared.clock_command.ClockCommand.{ClockCommand}
 use Rattle.commands.specs.declared.clock_command.ClockCommand.the-variants as clocks
 use Rattle.commands.specs.declared.modulator_command.ModulatorCommand.{ModulatorCommand}
 use Rattle.commands.specs.declared.modulator_command.ModulatorCommand.the-variants as modulators
-use Rattle.station.specs.Frames.{Try, went, stopped, noReports, seeing, watching, turned, clockTurn}
+use Rattle.frame.specs.Frames.{Try, went, stopped, noReports, seeing, watching, turned, clockTurn}
 use Rattle.station.specs.Stations.{infoIn}
-use Rattle.station.specs.declared.station.Station.{Station}
+use Rattle.station.specs.declared.Station.{Station}
 use Rattle.laws.specs.Calls.{Call, clock, modulator, frame, ofClock, ofModulator, keysOf, lives}
 use Rattle.demands.specs.Entries.{Lent, Shift, addTicks, subTicks, addFloat, subFloat, Entry, onStation, setFloat, setSpeed, updateFloat, updateSpeed, advanceFloat, advanceSpeed, report, when, readFloat, readSpeed, startIn, makeFloat, makeSpeed, shift}
 use Rattle.demands.specs.Events.{clockIn}

@@ -3,25 +3,25 @@ use Prim.Native.Nat.{ℕ, _≤_}
 use mathlib.Core.List.{List}
 use lib.ListN.{length}
 use lib.Ieee.{Float}
-use Rattle.times.specs.Answer.{Answer, accepted, refused}
-use Rattle.times.specs.Times.{addTicksOf, subTicksOf, addFloatOf, subFloatOf}
-use Rattle.times.specs.declared.clock_speed.ClockSpeed.{ClockSpeed}
-use Rattle.times.specs.declared.start_time.StartTime.{StartTime}
-use Rattle.times.specs.declared.start_time.When.{When}
-use Rattle.times.specs.declared.time.ClockId.{ClockId}
-use Rattle.times.specs.declared.time.ClockTime.{ClockTime}
-use Rattle.tweens.specs.declared.tween.Tween.{Tween}
-use Rattle.tweens.specs.declared.value.FloatValue.{FloatValue}
-use Rattle.tweens.specs.declared.value.Input.{Input}
-use Rattle.tweens.specs.declared.value.SpeedValue.{SpeedValue}
-use Rattle.parameters.specs.FloatParameters as floats
-use Rattle.parameters.specs.SpeedParameters as speeds
-use Rattle.parameters.specs.declared.float_parameter.FloatParameter.{FloatParameter}
-use Rattle.parameters.specs.declared.speed_parameter.SpeedParameter.{SpeedParameter}
+use Rattle.judge.specs.Answer.{Answer, accepted, refused}
+use Rattle.time.specs.Times.{addTicksOf, subTicksOf, addFloatOf, subFloatOf}
+use Rattle.clock_speed.specs.declared.ClockSpeed.{ClockSpeed}
+use Rattle.start_time.specs.declared.StartTime.{StartTime}
+use Rattle.start_time.specs.declared.When.{When}
+use Rattle.time.specs.declared.ClockId.{ClockId}
+use Rattle.time.specs.declared.ClockTime.{ClockTime}
+use Rattle.tween.specs.declared.Tween.{Tween}
+use Rattle.value.specs.declared.FloatValue.{FloatValue}
+use Rattle.value.specs.declared.Input.{Input}
+use Rattle.value.specs.declared.SpeedValue.{SpeedValue}
+use Rattle.float_parameter.specs.FloatParameters as floats
+use Rattle.speed_parameter.specs.SpeedParameters as speeds
+use Rattle.float_parameter.specs.declared.FloatParameter.{FloatParameter}
+use Rattle.speed_parameter.specs.declared.SpeedParameter.{SpeedParameter}
 use Rattle.info.specs.Infos.{whenOf, rawFloatIn, rawSpeedIn, startUpIn}
 use Rattle.info.specs.ParametersIn.{updateFloatIn, updateSpeedIn}
 use Rattle.station.specs.Stations.{infoIn}
-use Rattle.station.specs.declared.station.Station.{Station}
+use Rattle.station.specs.declared.Station.{Station}
 use Rattle.report.specs.Reports.{reportOf}
 use Rattle.laws.specs.Calls.{Call, after, numberOf}
 

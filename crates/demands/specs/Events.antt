@@ -4,18 +4,18 @@ use mathlib.Core.Bool.{Bool, false, not, _&&_, _||_, cond}
 use mathlib.Core.List.{List, [], _∷_, _++_}
 use lib.Dec.{eqb, leb}
 use lib.Ieee.{Float, nan, inf, fin, up, down}
-use Rattle.times.specs.Answer.{Answer, accepted, refused}
-use Rattle.times.specs.Judge.{badDt}
-use Rattle.times.specs.declared.time.ClockId.{ClockId}
-use Rattle.times.specs.declared.time.ClockTime.{ClockTime}
-use Rattle.parameters.specs.Courses.{isNow}
+use Rattle.judge.specs.Answer.{Answer, accepted, refused}
+use Rattle.judge.specs.Judge.{badDt}
+use Rattle.time.specs.declared.ClockId.{ClockId}
+use Rattle.time.specs.declared.ClockTime.{ClockTime}
+use Rattle.course.specs.Courses.{isNow}
 use Rattle.info.specs.Infos.{whenToStartOf}
-use Rattle.clocks.specs.OneClock.{advanceOf}
+use Rattle.clock.specs.OneClock.{advanceOf}
 use Rattle.clocks.specs.ClockTables.{whereIs, readFound}
-use Rattle.clocks.specs.declared.clock.Clock.{Clock}
-use Rattle.station.specs.Frames.{frameOf}
+use Rattle.clock.specs.declared.Clock.{Clock}
+use Rattle.frame.specs.Frames.{frameOf}
 use Rattle.station.specs.Stations.{infoIn}
-use Rattle.station.specs.declared.station.Station.{Station}
+use Rattle.station.specs.declared.Station.{Station}
 use Rattle.laws.specs.Calls.{Call, clock, modulator, frame, after}
 
 -- ---- runs

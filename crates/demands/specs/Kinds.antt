@@ -4,26 +4,26 @@ use mathlib.Core.Bool.{Bool, true, false, cond}
 use mathlib.Core.List.{List, [], _∷_, _++_}
 use lib.Dec.{eqb, leb}
 use lib.Ieee.{Float, binary64, add, le}
-use Rattle.times.specs.Durations.{secondsOf}
-use Rattle.times.specs.declared.time.ClockId.{ClockId}
-use Rattle.times.specs.declared.start_time.When.{When}
-use Rattle.times.specs.declared.start_time.When.the-variants.{Now, Later}
-use Rattle.tweens.specs.declared.value.Input.{Input}
-use Rattle.parameters.specs.FloatParameters as floats
-use Rattle.parameters.specs.SpeedParameters as speeds
-use Rattle.parameters.specs.declared.course.Course.{Course}
-use Rattle.parameters.specs.declared.float_parameter.FloatState.{FloatState}
-use Rattle.parameters.specs.declared.float_parameter.FloatState.the-variants as float
-use Rattle.parameters.specs.declared.float_parameter.FloatParameter.{FloatParameter}
-use Rattle.parameters.specs.declared.float_parameter.FloatAdvanced.{FloatAdvanced}
-use Rattle.parameters.specs.declared.speed_parameter.SpeedState.{SpeedState}
-use Rattle.parameters.specs.declared.speed_parameter.SpeedState.the-variants as speed
-use Rattle.parameters.specs.declared.speed_parameter.SpeedParameter.{SpeedParameter}
-use Rattle.parameters.specs.declared.speed_parameter.SpeedAdvanced.{SpeedAdvanced}
+use Rattle.duration.specs.Durations.{secondsOf}
+use Rattle.time.specs.declared.ClockId.{ClockId}
+use Rattle.start_time.specs.declared.When.{When}
+use Rattle.start_time.specs.declared.When.the-variants.{Now, Later}
+use Rattle.value.specs.declared.Input.{Input}
+use Rattle.float_parameter.specs.FloatParameters as floats
+use Rattle.speed_parameter.specs.SpeedParameters as speeds
+use Rattle.course.specs.declared.Course.{Course}
+use Rattle.float_parameter.specs.declared.FloatState.{FloatState}
+use Rattle.float_parameter.specs.declared.FloatState.the-variants as float
+use Rattle.float_parameter.specs.declared.FloatParameter.{FloatParameter}
+use Rattle.float_parameter.specs.declared.FloatAdvanced.{FloatAdvanced}
+use Rattle.speed_parameter.specs.declared.SpeedState.{SpeedState}
+use Rattle.speed_parameter.specs.declared.SpeedState.the-variants as speed
+use Rattle.speed_parameter.specs.declared.SpeedParameter.{SpeedParameter}
+use Rattle.speed_parameter.specs.declared.SpeedAdvanced.{SpeedAdvanced}
 use Rattle.info.specs.ParametersIn.{floatSourceOf, updateFloatIn, speedSourceOf, updateSpeedIn}
 use Rattle.info.specs.declared.info.Info.{Info}
 use Rattle.station.specs.Stations.{infoIn}
-use Rattle.station.specs.declared.station.Station.{Station}
+use Rattle.station.specs.declared.Station.{Station}
 use Rattle.laws.specs.Calls.{after}
 use Rattle.demands.specs.Events.{Event, call, update, advanceIn, total}
 

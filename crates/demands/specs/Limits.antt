@@ -4,37 +4,38 @@ use mathlib.Core.Bool.{Bool, true, false}
 use mathlib.Core.List.{List, [], _∷_, _++_}
 use lib.Dec.{T, eqb}
 use lib.Ieee.{Float, binary64, ofBits, add, sub, mul, div, rem, neg, lt, le, eq, toUnsigned}
-use Rattle.times.specs.Judge.{firstFault, dtFaults}
-use Rattle.times.specs.Speeds.{lerpOf, asSptOf, asTpsOf, asTpmOf, lerpSpeedOf}
-use Rattle.times.specs.Durations.{secsOf}
-use Rattle.times.specs.Starts.{startUpOf}
-use Rattle.times.specs.Times.{fromFloatOf, addTicksOf, subTicksOf, laterOf, earlierOf, addFloatOf, subFloatOf, compareOf}
-use Rattle.times.specs.declared.time.ClockId.{ClockId}
-use Rattle.times.specs.declared.time.ClockTime.{ClockTime}
-use Rattle.times.specs.declared.clock_speed.ClockSpeed.{ClockSpeed}
-use Rattle.times.specs.declared.clock_speed.ClockSpeed.the-variants.{SecondsPerTick, TicksPerSecond, TicksPerMinute}
-use Rattle.times.specs.declared.start_time.StartTime.{StartTime}
-use Rattle.times.specs.declared.start_time.StartTime.the-variants.{Immediate, Delayed, At}
-use Rattle.times.specs.declared.start_time.When.the-variants.{Later}
-use Rattle.tweens.specs.Easings.{easeOf}
-use Rattle.tweens.specs.Values.{speedValueFaults, mapFOf, mapSOf, mapOutputOf, valueOutputOf}
-use Rattle.tweens.specs.Waves.{waveFaults, waveOf}
-use Rattle.tweens.specs.declared.tween.Easing.{Easing}
-use Rattle.tweens.specs.declared.tween.Easing.the-variants.{Linear, InPowi, OutPowi, InOutPowi}
-use Rattle.tweens.specs.declared.tween.Tween.{Tween}
-use Rattle.tweens.specs.declared.value.FloatMapping.{FloatMapping}
-use Rattle.tweens.specs.declared.value.SpeedMapping.{SpeedMapping}
-use Rattle.tweens.specs.declared.value.FloatValue.{FloatValue}
-use Rattle.tweens.specs.declared.value.FloatValue.the-variants as toFloat
-use Rattle.tweens.specs.declared.value.SpeedValue.{SpeedValue}
-use Rattle.tweens.specs.declared.value.SpeedValue.the-variants as toSpeed
-use Rattle.tweens.specs.declared.value.Op.the-variants as op
-use Rattle.tweens.specs.declared.value.ModulatorId.{ModulatorId}
-use Rattle.tweens.specs.declared.waveform.Waveform.{Waveform}
-use Rattle.tweens.specs.declared.waveform.Waveform.the-variants.{Triangle, Saw, Pulse}
-use Rattle.parameters.specs.FloatParameters as floats
-use Rattle.parameters.specs.SpeedParameters as speeds
-use Rattle.parameters.specs.declared.speed_parameter.SpeedParameter.{SpeedParameter}
+use Rattle.judge.specs.Judge.{firstFault, dtFaults}
+use Rattle.clock_speed.specs.Speeds.{asSptOf, asTpsOf, asTpmOf, lerpSpeedOf}
+use Rattle.tweenable.specs.Tweenables.{lerpOf}
+use Rattle.duration.specs.Durations.{secsOf}
+use Rattle.start_time.specs.Starts.{startUpOf}
+use Rattle.time.specs.Times.{fromFloatOf, addTicksOf, subTicksOf, laterOf, earlierOf, addFloatOf, subFloatOf, compareOf}
+use Rattle.time.specs.declared.ClockId.{ClockId}
+use Rattle.time.specs.declared.ClockTime.{ClockTime}
+use Rattle.clock_speed.specs.declared.ClockSpeed.{ClockSpeed}
+use Rattle.clock_speed.specs.declared.ClockSpeed.the-variants.{SecondsPerTick, TicksPerSecond, TicksPerMinute}
+use Rattle.start_time.specs.declared.StartTime.{StartTime}
+use Rattle.start_time.specs.declared.StartTime.the-variants.{Immediate, Delayed, At}
+use Rattle.start_time.specs.declared.When.the-variants.{Later}
+use Rattle.tween.specs.Easings.{easeOf}
+use Rattle.value.specs.Values.{speedValueFaults, mapFOf, mapSOf, mapOutputOf, valueOutputOf}
+use Rattle.waveform.specs.Waves.{waveFaults, waveOf}
+use Rattle.tween.specs.declared.Easing.{Easing}
+use Rattle.tween.specs.declared.Easing.the-variants.{Linear, InPowi, OutPowi, InOutPowi}
+use Rattle.tween.specs.declared.Tween.{Tween}
+use Rattle.value.specs.declared.FloatMapping.{FloatMapping}
+use Rattle.value.specs.declared.SpeedMapping.{SpeedMapping}
+use Rattle.value.specs.declared.FloatValue.{FloatValue}
+use Rattle.value.specs.declared.FloatValue.the-variants as toFloat
+use Rattle.value.specs.declared.SpeedValue.{SpeedValue}
+use Rattle.value.specs.declared.SpeedValue.the-variants as toSpeed
+use Rattle.value.specs.declared.Op.the-variants as op
+use Rattle.value.specs.declared.ModulatorId.{ModulatorId}
+use Rattle.waveform.specs.declared.Waveform.{Waveform}
+use Rattle.waveform.specs.declared.Waveform.the-variants.{Triangle, Saw, Pulse}
+use Rattle.float_parameter.specs.FloatParameters as floats
+use Rattle.speed_parameter.specs.SpeedParameters as speeds
+use Rattle.speed_parameter.specs.declared.SpeedParameter.{SpeedParameter}
 use Rattle.info.specs.Infos.{whenOf, rawFloatIn, rawSpeedIn, startUpIn}
 use Rattle.modulator.specs.Tweeners.{tweenerFaults}
 use Rattle.modulator.specs.Lfos.{builderFaults}

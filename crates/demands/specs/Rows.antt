@@ -4,38 +4,38 @@ use mathlib.Core.Bool.{Bool, true, false}
 use mathlib.Core.List.{List, [], _∷_, _++_}
 use lib.Dec.{T, eqb}
 use lib.Ieee.{Float, binary64, ofBits, toBits, add, sub, mul, div, rem, lt, le, eq, toUnsigned, ofInt}
-use Rattle.times.specs.Answer.{Answer, accepted, refused}
-use Rattle.times.specs.Judge.{firstFault}
-use Rattle.times.specs.Speeds.{asTpsOf}
-use Rattle.times.specs.Durations.{nanosOf, secondsOf}
-use Rattle.times.specs.Times.{fromFloatOf, addFloatOf, subFloatOf, laterOf, earlierOf}
-use Rattle.times.specs.declared.time.ClockId.{ClockId}
-use Rattle.times.specs.declared.time.ClockTime.{ClockTime}
-use Rattle.times.specs.declared.clock_speed.ClockSpeed.the-variants.{TicksPerSecond, TicksPerMinute}
-use Rattle.times.specs.declared.start_time.StartTime.the-variants.{Delayed}
-use Rattle.times.specs.declared.start_time.When.the-variants.{Later}
-use Rattle.tweens.specs.Easings.{easeOf, applyOf, inOutOf, powerOf, tweenValueOf}
-use Rattle.tweens.specs.Values.{mapFOf, mapFloatOf, amountOf}
-use Rattle.tweens.specs.Waves.{waveOf, waveValueOf}
-use Rattle.tweens.specs.declared.tween.Easing.the-variants.{Linear, InOutPowi}
-use Rattle.tweens.specs.declared.value.FloatValue.the-variants as fixed
-use Rattle.tweens.specs.declared.value.SpeedValue.the-variants as speed
-use Rattle.tweens.specs.declared.value.Input.the-variants as input
-use Rattle.tweens.specs.declared.waveform.Waveform.the-variants.{Triangle}
-use Rattle.parameters.specs.Courses.{stepOf}
-use Rattle.parameters.specs.FloatParameters.{newOf, changeOf, advanceOf, updateOf, tweenedOf}
-use Rattle.parameters.specs.SpeedParameters as speeds
-use Rattle.parameters.specs.declared.float_parameter.FloatParameter.{FloatParameter}
+use Rattle.judge.specs.Answer.{Answer, accepted, refused}
+use Rattle.judge.specs.Judge.{firstFault}
+use Rattle.clock_speed.specs.Speeds.{asTpsOf}
+use Rattle.duration.specs.Durations.{nanosOf, secondsOf}
+use Rattle.time.specs.Times.{fromFloatOf, addFloatOf, subFloatOf, laterOf, earlierOf}
+use Rattle.time.specs.declared.ClockId.{ClockId}
+use Rattle.time.specs.declared.ClockTime.{ClockTime}
+use Rattle.clock_speed.specs.declared.ClockSpeed.the-variants.{TicksPerSecond, TicksPerMinute}
+use Rattle.start_time.specs.declared.StartTime.the-variants.{Delayed}
+use Rattle.start_time.specs.declared.When.the-variants.{Later}
+use Rattle.tween.specs.Easings.{easeOf, applyOf, inOutOf, powerOf, tweenValueOf}
+use Rattle.value.specs.Values.{mapFOf, mapFloatOf, amountOf}
+use Rattle.waveform.specs.Waves.{waveOf, waveValueOf}
+use Rattle.tween.specs.declared.Easing.the-variants.{Linear, InOutPowi}
+use Rattle.value.specs.declared.FloatValue.the-variants as fixed
+use Rattle.value.specs.declared.SpeedValue.the-variants as speed
+use Rattle.value.specs.declared.Input.the-variants as input
+use Rattle.waveform.specs.declared.Waveform.the-variants.{Triangle}
+use Rattle.course.specs.Courses.{stepOf}
+use Rattle.float_parameter.specs.FloatParameters.{newOf, changeOf, advanceOf, updateOf, tweenedOf}
+use Rattle.speed_parameter.specs.SpeedParameters as speeds
+use Rattle.float_parameter.specs.declared.FloatParameter.{FloatParameter}
 use Rattle.tables.specs.Keys.{freeOf, livesIn, findOf}
 use Rattle.tables.specs.Lists.{readAt}
 use Rattle.ticks.specs.WholeTicks.{roomFor, takenOf}
-use Rattle.clocks.specs.OneClock.{tickOf, updateClockOf}
+use Rattle.clock.specs.OneClock.{tickOf, updateClockOf}
 use Rattle.clocks.specs.ClockTables.{addClockOf, tickOnOf, clockTimeOf}
-use Rattle.clocks.specs.declared.clock.Reported.{Reported}
+use Rattle.clock.specs.declared.Reported.{Reported}
 use Rattle.station.specs.Stations.{freshStation, infoIn}
-use Rattle.station.specs.Turns.{turnClock}
-use Rattle.station.specs.Frames.{modulatorTurns, modulatorsTurned, clockTurns, clocksTurned, frameOf}
-use Rattle.station.specs.declared.station.Station.{Station}
+use Rattle.turns.specs.Turns.{turnClock}
+use Rattle.frame.specs.Frames.{modulatorTurns, modulatorsTurned, clockTurns, clocksTurned, frameOf}
+use Rattle.station.specs.declared.Station.{Station}
 use Rattle.commands.specs.ClockCommands.{runClockOf}
 use Rattle.commands.specs.declared.clock_command.ClockCommand.the-variants.{Add, Start}
 use Rattle.laws.specs.Calls.{clock, frame, after, afterAll}

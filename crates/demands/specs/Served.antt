@@ -6,25 +6,25 @@ use mathlib.Core.List.{List, [], _∷_, map}
 use lib.Dec.{eqb, leb}
 use lib.Ieee.{Float}
 use Rattle.doubles.specs.Doubles.{finiteOf, signOf}
-use Rattle.times.specs.Answer.{accepted}
-use Rattle.times.specs.Judge.{badFraction}
-use Rattle.times.specs.declared.time.ClockId.{ClockId}
-use Rattle.times.specs.declared.time.ClockTime.{ClockTime}
-use Rattle.times.specs.declared.start_time.StartTime.the-variants.{At}
-use Rattle.tweens.specs.declared.tween.Tween.{Tween}
-use Rattle.tweens.specs.declared.value.FloatValue.{FloatValue}
-use Rattle.tweens.specs.declared.value.SpeedValue.{SpeedValue}
-use Rattle.parameters.specs.Courses.{newCourse}
-use Rattle.parameters.specs.FloatParameters as floats
-use Rattle.parameters.specs.SpeedParameters as speeds
-use Rattle.parameters.specs.declared.float_parameter.FloatParameter.{FloatParameter}
-use Rattle.parameters.specs.declared.speed_parameter.SpeedParameter.{SpeedParameter}
+use Rattle.judge.specs.Answer.{accepted}
+use Rattle.judge.specs.Judge.{badFraction}
+use Rattle.time.specs.declared.ClockId.{ClockId}
+use Rattle.time.specs.declared.ClockTime.{ClockTime}
+use Rattle.start_time.specs.declared.StartTime.the-variants.{At}
+use Rattle.tween.specs.declared.Tween.{Tween}
+use Rattle.value.specs.declared.FloatValue.{FloatValue}
+use Rattle.value.specs.declared.SpeedValue.{SpeedValue}
+use Rattle.course.specs.Courses.{newCourse}
+use Rattle.float_parameter.specs.FloatParameters as floats
+use Rattle.speed_parameter.specs.SpeedParameters as speeds
+use Rattle.float_parameter.specs.declared.FloatParameter.{FloatParameter}
+use Rattle.speed_parameter.specs.declared.SpeedParameter.{SpeedParameter}
 use Rattle.clocks.specs.ClockTables.{clockTimeOf}
-use Rattle.clocks.specs.declared.clock.Clock.{Clock}
-use Rattle.clocks.specs.declared.clock.ClockState.the-variants.{NotStarted}
+use Rattle.clock.specs.declared.Clock.{Clock}
+use Rattle.clock.specs.declared.ClockState.the-variants.{NotStarted}
 use Rattle.commands.specs.declared.clock_command.ClockCommand.{ClockCommand}
 use Rattle.commands.specs.declared.clock_command.ClockCommand.the-variants as command
-use Rattle.station.specs.declared.station.Station.{Station}
+use Rattle.station.specs.declared.Station.{Station}
 use Rattle.laws.specs.Calls.{Call, clock, modulator, frame, after}
 use Rattle.laws.specs.SoundStation.{All}
 use Rattle.demands.specs.Kinds.{Kind, running, floatKind, speedKind, courseOf, courseBySum, progressOf, progressBySums}

@@ -3,18 +3,17 @@ use grammar::FloatAt;
 use grammar::NumberAt;
 use grammar::TimeAt;
 use text::Word;
-use times::time::ClockId;
-use times::time::ClockTime;
-use times::time::Compared;
-use times::time::Order;
-use times::time::Timed;
-use times::time::add_f64;
-use times::time::add_u64;
-use times::time::compare;
-use times::time::from_ticks_f64;
-use times::time::from_ticks_u64;
-use times::time::sub_f64;
-use times::time::sub_u64;
+use time::ClockId;
+use time::Compared;
+use time::Order;
+use time::Timed;
+use time::add_f64;
+use time::add_u64;
+use time::compare;
+use time::from_ticks_f64;
+use time::from_ticks_u64;
+use time::sub_f64;
+use time::sub_u64;
 
 // A time that is written without its clock has this one.
 fn no_clock() -> ClockId {

@@ -4,13 +4,13 @@ use grammar::FloatMapAt;
 use grammar::FloatValueAt;
 use grammar::SpeedMapAt;
 use text::Word;
-use tweens::value::Mapped;
-use tweens::value::Op;
-use tweens::value::Valued;
-use tweens::value::map_f;
-use tweens::value::map_output;
-use tweens::value::map_s;
-use tweens::value::value_output;
+use value::Mapped;
+use value::Op;
+use value::Valued;
+use value::map_f;
+use value::map_output;
+use value::map_s;
+use value::value_output;
 
 enum OpAt {
     Is(Op, usize),

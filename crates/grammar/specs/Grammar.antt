@@ -10,16 +10,16 @@ use Rattle.text.specs.Numbers.{hex16Of, decimalOf}
 use Rattle.text.specs.declared.Word.{Word}
 use Rattle.text.specs.declared.Number.{Number}
 use Rattle.text.specs.declared.Number.the-variants as number
-use Rattle.times.specs.declared.clock_speed.ClockSpeed.{ClockSpeed}
-use Rattle.times.specs.declared.clock_speed.ClockSpeed.the-variants.{SecondsPerTick, TicksPerSecond, TicksPerMinute}
-use Rattle.times.specs.declared.start_time.StartTime.the-variants.{Immediate, Delayed, At}
-use Rattle.times.specs.declared.time.ClockId.{ClockId}
-use Rattle.times.specs.declared.time.ClockTime.{ClockTime}
-use Rattle.tweens.specs.declared.tween.Easing.{Easing}
-use Rattle.tweens.specs.declared.tween.Easing.the-variants.{Linear, InPowi, OutPowi, InOutPowi}
-use Rattle.tweens.specs.declared.value.FloatMapping.{FloatMapping}
-use Rattle.tweens.specs.declared.value.FloatValue.the-variants.{Fixed, FromModulator}
-use Rattle.tweens.specs.declared.waveform.Waveform.the-variants.{Triangle, Saw, Pulse}
+use Rattle.clock_speed.specs.declared.ClockSpeed.{ClockSpeed}
+use Rattle.clock_speed.specs.declared.ClockSpeed.the-variants.{SecondsPerTick, TicksPerSecond, TicksPerMinute}
+use Rattle.start_time.specs.declared.StartTime.the-variants.{Immediate, Delayed, At}
+use Rattle.time.specs.declared.ClockId.{ClockId}
+use Rattle.time.specs.declared.ClockTime.{ClockTime}
+use Rattle.tween.specs.declared.Easing.{Easing}
+use Rattle.tween.specs.declared.Easing.the-variants.{Linear, InPowi, OutPowi, InOutPowi}
+use Rattle.value.specs.declared.FloatMapping.{FloatMapping}
+use Rattle.value.specs.declared.FloatValue.the-variants.{Fixed, FromModulator}
+use Rattle.waveform.specs.declared.Waveform.the-variants.{Triangle, Saw, Pulse}
 use Rattle.grammar.specs.declared.Number32.{Number32}
 use Rattle.grammar.specs.declared.Number32.the-variants as number32
 use Rattle.grammar.specs.declared.FloatAt.{FloatAt}

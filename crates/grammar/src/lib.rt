@@ -3,18 +3,18 @@
 ghost use mathlib.Core.Path.{_≡_};
 ghost use Rattle.text.specs.Words.{run};
 ghost use Rattle.grammar.specs.Grammar.{named, endedAt, floatAt, numberAt, decimal32Of, powerAt, noColon, idIn, idAt, speedAt, easeAt, timeAt, clockTimeAt, delayAt, startAt, floatMapAt, speedMapAt, floatValueAt, waveAt};
+use clock_speed::ClockSpeed;
+use start_time::StartTime;
 use text::Number;
 use text::Word;
-use times::clock_speed::ClockSpeed;
-use times::start_time::StartTime;
-use times::time::ClockId;
-use times::time::ClockTime;
-use tweens::tween::Easing;
-use tweens::value::FloatMapping;
-use tweens::value::FloatValue;
-use tweens::value::ModulatorId;
-use tweens::value::SpeedMapping;
-use tweens::waveform::Waveform;
+use time::ClockId;
+use time::ClockTime;
+use tween::Easing;
+use value::FloatMapping;
+use value::FloatValue;
+use value::ModulatorId;
+use value::SpeedMapping;
+use waveform::Waveform;
 
 pub enum FloatAt {
     Is(f64, usize),

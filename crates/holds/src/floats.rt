@@ -1,95 +1,137 @@
 // The calls fp.*: on one parameter of kind f64.
-use crate::KeptAt;
-use crate::done;
-use crate::kept;
+use crate::Call;
+use crate::NO_CALL;
+use crate::asked;
+use crate::marked;
+use float_parameter::FloatAdvanced;
+use float_parameter::FloatMade;
+use float_parameter::FloatParameter;
+use float_parameter::change_float;
+use float_parameter::make_float;
+use float_parameter::new_float;
 use grammar::FloatAt;
 use grammar::FloatValueAt;
 use info::info::Info;
 use info::parameter::update_float_in;
 use lines::values::TweenAt;
 use lines::values::tween;
-use parameters::float_parameter::FloatMade;
-use parameters::float_parameter::FloatParameter;
-use parameters::float_parameter::change_float;
-use parameters::float_parameter::make_float;
-use parameters::float_parameter::new_float;
 use text::Word;
-use tweens::value::FloatValue;
+use tween::Tween;
+use value::FloatValue;
 
-// A parameter, once an accepted call has made it.
-pub struct FloatSlot {
-    pub made: bool,
-    pub parameter: FloatParameter,
-}
-
+// The length of the last answer, 0 where the call was an error; which parameters an accepted call has made;
+// and the parameters.
 pub struct Floats {
-    pub slots: [FloatSlot; 16],
+    pub n: usize,
+    pub made: [bool; 16],
+    pub slots: [FloatParameter; 16],
 }
 
-// The answer's length, 0 where the call is an error, and the parameters.
-pub struct FloatsKept {
-    pub n: usize,
-    pub table: Floats,
-}
-
-// The same of one parameter.
-pub struct FloatKept {
-    pub n: usize,
-    pub slot: FloatSlot,
+// A value to set and its tween, or that the line is no call.
+pub enum FloatToSet {
+    Is(FloatValue, Tween),
+    No,
 }
 
 // No parameter is made.
 pub fn no_floats() -> Floats {
-    let slot = FloatSlot {
-        made: false,
-        parameter: new_float(FloatValue::Fixed(0.0), 0.0),
-    };
-    Floats { slots: [slot; 16] }
+    let parameter = new_float(FloatValue::Fixed(0.0), 0.0);
+    Floats {
+        n: 0,
+        made: [false; 16],
+        slots: [parameter; 16],
+    }
 }
 
-fn make(line: &[u8], at: usize, out: &mut [u8], s: FloatSlot) -> FloatKept {
+fn parameter_at(t: Floats, k: usize) -> FloatParameter {
+    t.slots[k % 16]
+}
+
+// The parameters after a call on one of them, and the length of its answer.
+fn put(t: Floats, k: usize, r: FloatAdvanced, n: usize) -> Floats {
+    let mut table = t;
+    let made = marked(table.made, k, r.refused);
+    let parameter = r.parameter;
+    table.slots[k % 16] = parameter;
+    table.made = made;
+    table.n = n;
+    table
+}
+
+// A parameter that a line makes. The refusal is NO_CALL where the line is no call.
+fn to_make(line: &[u8], at: usize) -> FloatMade {
     let FloatValueAt::Is(v, a) = grammar::float_value(line, at) else {
-        return FloatKept { n: 0, slot: s };
+        return FloatMade::Refused(NO_CALL);
     };
     let FloatAt::Is(x, to) = grammar::float(line, a) else {
-        return FloatKept { n: 0, slot: s };
+        return FloatMade::Refused(NO_CALL);
     };
     if !grammar::ended(line, to) {
-        return FloatKept { n: 0, slot: s };
+        return FloatMade::Refused(NO_CALL);
     }
-    match make_float(v, x) {
-        FloatMade::Is(parameter) => FloatKept {
-            n: done(out, 0),
-            slot: FloatSlot {
-                made: true,
-                parameter,
-            },
+    make_float(v, x)
+}
+
+fn to_set(line: &[u8], at: usize) -> FloatToSet {
+    let FloatValueAt::Is(v, a) = grammar::float_value(line, at) else {
+        return FloatToSet::No;
+    };
+    let TweenAt::Is(w, to) = tween(line, a) else {
+        return FloatToSet::No;
+    };
+    if !grammar::ended(line, to) {
+        return FloatToSet::No;
+    }
+    FloatToSet::Is(v, w)
+}
+
+fn make(line: &[u8], at: usize, p: FloatParameter) -> FloatAdvanced {
+    match to_make(line, at) {
+        FloatMade::Is(made) => FloatAdvanced {
+            refused: 0,
+            finished: false,
+            parameter: made,
         },
-        FloatMade::Refused(n) => FloatKept {
-            n: done(out, n),
-            slot: s,
+        FloatMade::Refused(n) => FloatAdvanced {
+            refused: n,
+            finished: false,
+            parameter: p,
         },
     }
 }
 
-fn set(line: &[u8], at: usize, out: &mut [u8], s: FloatSlot) -> FloatKept {
-    let FloatValueAt::Is(v, a) = grammar::float_value(line, at) else {
-        return FloatKept { n: 0, slot: s };
+fn set(line: &[u8], at: usize, p: FloatParameter) -> FloatAdvanced {
+    let FloatToSet::Is(v, w) = to_set(line, at) else {
+        return FloatAdvanced {
+            refused: NO_CALL,
+            finished: false,
+            parameter: p,
+        };
     };
-    let TweenAt::Is(w, to) = tween(line, a) else {
-        return FloatKept { n: 0, slot: s };
-    };
-    if !grammar::ended(line, to) {
-        return FloatKept { n: 0, slot: s };
-    }
-    let p = s.parameter;
     let r = change_float(p, v, w);
     let parameter = r.parameter;
-    FloatKept {
-        n: done(out, r.refused),
-        slot: FloatSlot {
-            made: true,
-            parameter,
+    FloatAdvanced {
+        refused: r.refused,
+        finished: false,
+        parameter,
+    }
+}
+
+// What a call does to a parameter. Only the update sees clocks and modulators.
+fn stepped(line: &[u8], call: Call, p: FloatParameter, info: Info) -> FloatAdvanced {
+    match call {
+        Call::Make(at) => make(line, at, p),
+        Call::Set(at) => set(line, at, p),
+        Call::Update(dt) => update_float_in(info, p, dt),
+        Call::Value => FloatAdvanced {
+            refused: 0,
+            finished: false,
+            parameter: p,
+        },
+        Call::None => FloatAdvanced {
+            refused: NO_CALL,
+            finished: false,
+            parameter: p,
         },
     }
 }
@@ -99,89 +141,33 @@ fn value(out: &mut [u8], at: usize, x: f64) -> usize {
     digits::end(out, behind)
 }
 
-// Every call but the update. One that was not made takes only `new`.
-fn call(line: &[u8], name: Word, at: usize, out: &mut [u8], s: FloatSlot) -> FloatKept {
-    if grammar::is(line, name, b"fp.new") {
-        return make(line, at, out, s);
+// The answer to a call, and its length.
+fn reply(out: &mut [u8], call: Call, refused: u32, finished: bool, raw: f64) -> usize {
+    if refused == NO_CALL {
+        return 0;
     }
-    if !s.made {
-        return FloatKept { n: 0, slot: s };
+    if refused != 0 {
+        return answers::refused(out, refused);
     }
-    if grammar::is(line, name, b"fp.set") {
-        return set(line, at, out, s);
-    }
-    if !grammar::is(line, name, b"fp.val") {
-        return FloatKept { n: 0, slot: s };
-    }
-    if !grammar::ended(line, at) {
-        return FloatKept { n: 0, slot: s };
-    }
-    let p = s.parameter;
-    FloatKept {
-        n: value(out, 0, p.raw),
-        slot: s,
+    match call {
+        Call::Update(_) => {
+            let a = digits::flag(out, 0, finished);
+            let b = digits::put(out, a, b" ");
+            value(out, b, raw)
+        }
+        Call::Value => value(out, 0, raw),
+        Call::Make(_) => replies::ok(out),
+        Call::Set(_) => replies::ok(out),
+        Call::None => 0,
     }
 }
 
-// The update, with what is seen of clocks and modulators.
-fn update(line: &[u8], at: usize, out: &mut [u8], s: FloatSlot, info: Info) -> FloatKept {
-    let FloatAt::Is(dt, to) = grammar::float(line, at) else {
-        return FloatKept { n: 0, slot: s };
-    };
-    if !grammar::ended(line, to) {
-        return FloatKept { n: 0, slot: s };
-    }
-    if !s.made {
-        return FloatKept { n: 0, slot: s };
-    }
-    let p = s.parameter;
-    let r = update_float_in(info, p, dt);
-    if r.refused != 0 {
-        return FloatKept {
-            n: answers::refused(out, r.refused),
-            slot: s,
-        };
-    }
-    let parameter = r.parameter;
-    let a = digits::flag(out, 0, r.finished);
-    let b = digits::put(out, a, b" ");
-    FloatKept {
-        n: value(out, b, parameter.raw),
-        slot: FloatSlot {
-            made: true,
-            parameter,
-        },
-    }
-}
-
-// A call but the update, on the parameter that the line names.
-pub fn call_on(line: &[u8], name: Word, out: &mut [u8], t: Floats) -> FloatsKept {
-    let KeptAt::Is(k, at) = kept(line, name.to) else {
-        return FloatsKept { n: 0, table: t };
-    };
-    if k > 15 {
-        return FloatsKept { n: 0, table: t };
-    }
-    let s = t.slots[k];
-    let r = call(line, name, at, out, s);
-    let slot = r.slot;
-    let mut table = t;
-    table.slots[k] = slot;
-    FloatsKept { n: r.n, table }
-}
-
-// The update of the parameter that the line names.
-pub fn update_on(line: &[u8], name: Word, out: &mut [u8], t: Floats, info: Info) -> FloatsKept {
-    let KeptAt::Is(k, at) = kept(line, name.to) else {
-        return FloatsKept { n: 0, table: t };
-    };
-    if k > 15 {
-        return FloatsKept { n: 0, table: t };
-    }
-    let s = t.slots[k];
-    let r = update(line, at, out, s, info);
-    let slot = r.slot;
-    let mut table = t;
-    table.slots[k] = slot;
-    FloatsKept { n: r.n, table }
+// Answers a call on the parameter that the line names.
+pub fn on(line: &[u8], name: Word, out: &mut [u8], t: Floats, info: Info) -> Floats {
+    let made = t.made;
+    let a = asked(line, name, made);
+    let call = a.call;
+    let r = stepped(line, call, parameter_at(t, a.k), info);
+    let n = reply(out, call, r.refused, r.finished, r.parameter.raw);
+    put(t, a.k, r, n)
 }

@@ -1,8 +1,9 @@
 // The calls sp.*: on one parameter of kind speed.
-use crate::KeptAt;
-use crate::done;
-use crate::kept;
-use grammar::FloatAt;
+use crate::Call;
+use crate::NO_CALL;
+use crate::asked;
+use crate::marked;
+use clock_speed::ClockSpeed;
 use grammar::SpeedAt;
 use info::info::Info;
 use info::parameter::update_speed_in;
@@ -10,90 +11,130 @@ use lines::values::SpeedValueAt;
 use lines::values::TweenAt;
 use lines::values::speed_value;
 use lines::values::tween;
-use parameters::speed_parameter::SpeedMade;
-use parameters::speed_parameter::SpeedParameter;
-use parameters::speed_parameter::change_speed;
-use parameters::speed_parameter::make_speed;
-use parameters::speed_parameter::new_speed;
+use speed_parameter::SpeedAdvanced;
+use speed_parameter::SpeedMade;
+use speed_parameter::SpeedParameter;
+use speed_parameter::change_speed;
+use speed_parameter::make_speed;
+use speed_parameter::new_speed;
 use text::Word;
-use times::clock_speed::ClockSpeed;
-use tweens::value::SpeedValue;
+use tween::Tween;
+use value::SpeedValue;
 
-// A parameter, once an accepted call has made it.
-pub struct SpeedSlot {
-    pub made: bool,
-    pub parameter: SpeedParameter,
-}
-
+// The length of the last answer, 0 where the call was an error; which parameters an accepted call has made;
+// and the parameters.
 pub struct Speeds {
-    pub slots: [SpeedSlot; 16],
+    pub n: usize,
+    pub made: [bool; 16],
+    pub slots: [SpeedParameter; 16],
 }
 
-// The answer's length, 0 where the call is an error, and the parameters.
-pub struct SpeedsKept {
-    pub n: usize,
-    pub table: Speeds,
-}
-
-// The same of one parameter.
-pub struct SpeedKept {
-    pub n: usize,
-    pub slot: SpeedSlot,
+// A value to set and its tween, or that the line is no call.
+pub enum SpeedToSet {
+    Is(SpeedValue, Tween),
+    No,
 }
 
 // No parameter is made.
 pub fn no_speeds() -> Speeds {
     let zero = ClockSpeed::TicksPerSecond(0.0);
-    let slot = SpeedSlot {
-        made: false,
-        parameter: new_speed(SpeedValue::Fixed(zero), zero),
-    };
-    Speeds { slots: [slot; 16] }
+    let parameter = new_speed(SpeedValue::Fixed(zero), zero);
+    Speeds {
+        n: 0,
+        made: [false; 16],
+        slots: [parameter; 16],
+    }
 }
 
-fn make(line: &[u8], at: usize, out: &mut [u8], s: SpeedSlot) -> SpeedKept {
+fn parameter_at(t: Speeds, k: usize) -> SpeedParameter {
+    t.slots[k % 16]
+}
+
+// The parameters after a call on one of them, and the length of its answer.
+fn put(t: Speeds, k: usize, r: SpeedAdvanced, n: usize) -> Speeds {
+    let mut table = t;
+    let made = marked(table.made, k, r.refused);
+    let parameter = r.parameter;
+    table.slots[k % 16] = parameter;
+    table.made = made;
+    table.n = n;
+    table
+}
+
+// A parameter that a line makes. The refusal is NO_CALL where the line is no call.
+fn to_make(line: &[u8], at: usize) -> SpeedMade {
     let SpeedValueAt::Is(v, a) = speed_value(line, at) else {
-        return SpeedKept { n: 0, slot: s };
+        return SpeedMade::Refused(NO_CALL);
     };
     let SpeedAt::Is(x, to) = grammar::speed(line, a) else {
-        return SpeedKept { n: 0, slot: s };
+        return SpeedMade::Refused(NO_CALL);
     };
     if !grammar::ended(line, to) {
-        return SpeedKept { n: 0, slot: s };
+        return SpeedMade::Refused(NO_CALL);
     }
-    match make_speed(v, x) {
-        SpeedMade::Is(parameter) => SpeedKept {
-            n: done(out, 0),
-            slot: SpeedSlot {
-                made: true,
-                parameter,
-            },
+    make_speed(v, x)
+}
+
+fn to_set(line: &[u8], at: usize) -> SpeedToSet {
+    let SpeedValueAt::Is(v, a) = speed_value(line, at) else {
+        return SpeedToSet::No;
+    };
+    let TweenAt::Is(w, to) = tween(line, a) else {
+        return SpeedToSet::No;
+    };
+    if !grammar::ended(line, to) {
+        return SpeedToSet::No;
+    }
+    SpeedToSet::Is(v, w)
+}
+
+fn make(line: &[u8], at: usize, p: SpeedParameter) -> SpeedAdvanced {
+    match to_make(line, at) {
+        SpeedMade::Is(made) => SpeedAdvanced {
+            refused: 0,
+            finished: false,
+            parameter: made,
         },
-        SpeedMade::Refused(n) => SpeedKept {
-            n: done(out, n),
-            slot: s,
+        SpeedMade::Refused(n) => SpeedAdvanced {
+            refused: n,
+            finished: false,
+            parameter: p,
         },
     }
 }
 
-fn set(line: &[u8], at: usize, out: &mut [u8], s: SpeedSlot) -> SpeedKept {
-    let SpeedValueAt::Is(v, a) = speed_value(line, at) else {
-        return SpeedKept { n: 0, slot: s };
+fn set(line: &[u8], at: usize, p: SpeedParameter) -> SpeedAdvanced {
+    let SpeedToSet::Is(v, w) = to_set(line, at) else {
+        return SpeedAdvanced {
+            refused: NO_CALL,
+            finished: false,
+            parameter: p,
+        };
     };
-    let TweenAt::Is(w, to) = tween(line, a) else {
-        return SpeedKept { n: 0, slot: s };
-    };
-    if !grammar::ended(line, to) {
-        return SpeedKept { n: 0, slot: s };
-    }
-    let p = s.parameter;
     let r = change_speed(p, v, w);
     let parameter = r.parameter;
-    SpeedKept {
-        n: done(out, r.refused),
-        slot: SpeedSlot {
-            made: true,
-            parameter,
+    SpeedAdvanced {
+        refused: r.refused,
+        finished: false,
+        parameter,
+    }
+}
+
+// What a call does to a parameter. Only the update sees clocks and modulators.
+fn stepped(line: &[u8], call: Call, p: SpeedParameter, info: Info) -> SpeedAdvanced {
+    match call {
+        Call::Make(at) => make(line, at, p),
+        Call::Set(at) => set(line, at, p),
+        Call::Update(dt) => update_speed_in(info, p, dt),
+        Call::Value => SpeedAdvanced {
+            refused: 0,
+            finished: false,
+            parameter: p,
+        },
+        Call::None => SpeedAdvanced {
+            refused: NO_CALL,
+            finished: false,
+            parameter: p,
         },
     }
 }
@@ -103,91 +144,35 @@ fn value(out: &mut [u8], at: usize, x: ClockSpeed) -> usize {
     digits::end(out, behind)
 }
 
-// Every call but the update. One that was not made takes only `new`.
-fn call(line: &[u8], name: Word, at: usize, out: &mut [u8], s: SpeedSlot) -> SpeedKept {
-    if grammar::is(line, name, b"sp.new") {
-        return make(line, at, out, s);
+// The answer to a call, and its length.
+fn reply(out: &mut [u8], call: Call, refused: u32, finished: bool, raw: ClockSpeed) -> usize {
+    if refused == NO_CALL {
+        return 0;
     }
-    if !s.made {
-        return SpeedKept { n: 0, slot: s };
+    if refused != 0 {
+        return answers::refused(out, refused);
     }
-    if grammar::is(line, name, b"sp.set") {
-        return set(line, at, out, s);
-    }
-    if !grammar::is(line, name, b"sp.val") {
-        return SpeedKept { n: 0, slot: s };
-    }
-    if !grammar::ended(line, at) {
-        return SpeedKept { n: 0, slot: s };
-    }
-    let p = s.parameter;
-    let raw = p.raw;
-    SpeedKept {
-        n: value(out, 0, raw),
-        slot: s,
+    match call {
+        Call::Update(_) => {
+            let a = digits::flag(out, 0, finished);
+            let b = digits::put(out, a, b" ");
+            value(out, b, raw)
+        }
+        Call::Value => value(out, 0, raw),
+        Call::Make(_) => replies::ok(out),
+        Call::Set(_) => replies::ok(out),
+        Call::None => 0,
     }
 }
 
-// The update, with what is seen of clocks and modulators.
-fn update(line: &[u8], at: usize, out: &mut [u8], s: SpeedSlot, info: Info) -> SpeedKept {
-    let FloatAt::Is(dt, to) = grammar::float(line, at) else {
-        return SpeedKept { n: 0, slot: s };
-    };
-    if !grammar::ended(line, to) {
-        return SpeedKept { n: 0, slot: s };
-    }
-    if !s.made {
-        return SpeedKept { n: 0, slot: s };
-    }
-    let p = s.parameter;
-    let r = update_speed_in(info, p, dt);
-    if r.refused != 0 {
-        return SpeedKept {
-            n: answers::refused(out, r.refused),
-            slot: s,
-        };
-    }
+// Answers a call on the parameter that the line names.
+pub fn on(line: &[u8], name: Word, out: &mut [u8], t: Speeds, info: Info) -> Speeds {
+    let made = t.made;
+    let a = asked(line, name, made);
+    let call = a.call;
+    let r = stepped(line, call, parameter_at(t, a.k), info);
     let parameter = r.parameter;
     let raw = parameter.raw;
-    let a = digits::flag(out, 0, r.finished);
-    let b = digits::put(out, a, b" ");
-    SpeedKept {
-        n: value(out, b, raw),
-        slot: SpeedSlot {
-            made: true,
-            parameter,
-        },
-    }
-}
-
-// A call but the update, on the parameter that the line names.
-pub fn call_on(line: &[u8], name: Word, out: &mut [u8], t: Speeds) -> SpeedsKept {
-    let KeptAt::Is(k, at) = kept(line, name.to) else {
-        return SpeedsKept { n: 0, table: t };
-    };
-    if k > 15 {
-        return SpeedsKept { n: 0, table: t };
-    }
-    let s = t.slots[k];
-    let r = call(line, name, at, out, s);
-    let slot = r.slot;
-    let mut table = t;
-    table.slots[k] = slot;
-    SpeedsKept { n: r.n, table }
-}
-
-// The update of the parameter that the line names.
-pub fn update_on(line: &[u8], name: Word, out: &mut [u8], t: Speeds, info: Info) -> SpeedsKept {
-    let KeptAt::Is(k, at) = kept(line, name.to) else {
-        return SpeedsKept { n: 0, table: t };
-    };
-    if k > 15 {
-        return SpeedsKept { n: 0, table: t };
-    }
-    let s = t.slots[k];
-    let r = update(line, at, out, s, info);
-    let slot = r.slot;
-    let mut table = t;
-    table.slots[k] = slot;
-    SpeedsKept { n: r.n, table }
+    let n = reply(out, call, r.refused, r.finished, raw);
+    put(t, a.k, r, n)
 }

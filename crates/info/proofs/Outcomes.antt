@@ -2,9 +2,10 @@
 use mathlib.Core.Path.{_≡_}
 use lib.Ieee.{Float}
 use Rattle.doubles.proofs.Outcomes.{One, equal}
-use Rattle.times.proofs.Outcomes.{told, one-start-up}
-use Rattle.times.specs.declared.start_time.StartTime.{StartTime}
-use Rattle.times.specs.declared.start_time.When.{When}
+use Rattle.judge.proofs.Outcomes.{told}
+use Rattle.start_time.proofs.Outcomes.{one-start-up}
+use Rattle.start_time.specs.declared.StartTime.{StartTime}
+use Rattle.start_time.specs.declared.When.{When}
 use Rattle.info.specs.Infos.{startDueOf, toldWhen, toldRawFloat, toldRawSpeed}
 use Rattle.info.specs.declared.info.Whened.{Whened}
 use Rattle.info.specs.declared.info.Whened.the-variants as whened

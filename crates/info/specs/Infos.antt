@@ -6,29 +6,29 @@ use Rattle.tables.specs.Keys.{findOf}
 use Rattle.tables.specs.Lists.{readAt}
 use Rattle.tables.specs.declared.Found.{Found}
 use Rattle.tables.specs.declared.Found.the-variants as found
-use Rattle.times.specs.Answer.{Answer, accepted, refused}
-use Rattle.times.specs.Judge.{fractionFaults, judged}
-use Rattle.times.specs.Starts.{startUpOf}
-use Rattle.times.specs.Times.{orderOf}
-use Rattle.times.specs.declared.time.ClockTime.{ClockTime}
-use Rattle.times.specs.declared.time.Order.{Order}
-use Rattle.times.specs.declared.time.Order.the-variants.{Less, Equal, Greater, Unordered}
-use Rattle.times.specs.declared.start_time.StartTime.{StartTime}
-use Rattle.times.specs.declared.start_time.StartTime.the-variants.{Immediate, Delayed, At}
-use Rattle.times.specs.declared.start_time.When.{When}
-use Rattle.times.specs.declared.start_time.When.the-variants.{Now, Later, Never}
-use Rattle.times.specs.declared.start_time.Waited.{Waited}
-use Rattle.tweens.specs.Values.{floatValueFaults, speedValueFaults, rawFloatOf, rawSpeedOf}
-use Rattle.tweens.specs.declared.value.ModulatorId.{ModulatorId}
-use Rattle.tweens.specs.declared.value.Input.{Input}
-use Rattle.tweens.specs.declared.value.Input.the-variants as input
-use Rattle.tweens.specs.declared.value.FloatValue.{FloatValue}
-use Rattle.tweens.specs.declared.value.FloatValue.the-variants as float
-use Rattle.tweens.specs.declared.value.SpeedValue.{SpeedValue}
-use Rattle.tweens.specs.declared.value.SpeedValue.the-variants as speed
-use Rattle.tweens.specs.declared.value.RawFloat.{RawFloat}
-use Rattle.tweens.specs.declared.value.RawSpeed.{RawSpeed}
-use Rattle.info.specs.declared.info.ClockInfo.{ClockInfo}
+use Rattle.judge.specs.Answer.{Answer, accepted, refused}
+use Rattle.judge.specs.Judge.{fractionFaults, judged}
+use Rattle.start_time.specs.Starts.{startUpOf}
+use Rattle.time.specs.Times.{orderOf}
+use Rattle.time.specs.declared.ClockTime.{ClockTime}
+use Rattle.time.specs.declared.Order.{Order}
+use Rattle.time.specs.declared.Order.the-variants.{Less, Equal, Greater, Unordered}
+use Rattle.start_time.specs.declared.StartTime.{StartTime}
+use Rattle.start_time.specs.declared.StartTime.the-variants.{Immediate, Delayed, At}
+use Rattle.start_time.specs.declared.When.{When}
+use Rattle.start_time.specs.declared.When.the-variants.{Now, Later, Never}
+use Rattle.start_time.specs.declared.Waited.{Waited}
+use Rattle.value.specs.Values.{floatValueFaults, speedValueFaults, rawFloatOf, rawSpeedOf}
+use Rattle.value.specs.declared.ModulatorId.{ModulatorId}
+use Rattle.value.specs.declared.Input.{Input}
+use Rattle.value.specs.declared.Input.the-variants as input
+use Rattle.value.specs.declared.FloatValue.{FloatValue}
+use Rattle.value.specs.declared.FloatValue.the-variants as float
+use Rattle.value.specs.declared.SpeedValue.{SpeedValue}
+use Rattle.value.specs.declared.SpeedValue.the-variants as speed
+use Rattle.value.specs.declared.RawFloat.{RawFloat}
+use Rattle.value.specs.declared.RawSpeed.{RawSpeed}
+use Rattle.clock.specs.declared.ClockInfo.{ClockInfo}
 use Rattle.info.specs.declared.info.Info.{Info}
 use Rattle.info.specs.declared.info.Whened.{Whened}
 use Rattle.info.specs.declared.info.Whened.the-variants as whened

@@ -1,19 +1,19 @@
 -- Document 01, "parameter.rs" and "Frame": "The caller then updates parameters", with the clocks and the modulators as they stand. Assumes nothing.
 use lib.Ieee.{Float}
-use Rattle.times.specs.declared.start_time.When.{When}
-use Rattle.times.specs.declared.start_time.When.the-variants.{Later}
-use Rattle.tweens.specs.declared.value.Input.{Input}
-use Rattle.parameters.specs.FloatParameters as floats
-use Rattle.parameters.specs.SpeedParameters as speeds
-use Rattle.parameters.specs.declared.course.Course.{Course}
-use Rattle.parameters.specs.declared.float_parameter.FloatState.{FloatState}
-use Rattle.parameters.specs.declared.float_parameter.FloatState.the-variants as float
-use Rattle.parameters.specs.declared.float_parameter.FloatParameter.{FloatParameter}
-use Rattle.parameters.specs.declared.float_parameter.FloatAdvanced.{FloatAdvanced}
-use Rattle.parameters.specs.declared.speed_parameter.SpeedState.{SpeedState}
-use Rattle.parameters.specs.declared.speed_parameter.SpeedState.the-variants as speed
-use Rattle.parameters.specs.declared.speed_parameter.SpeedParameter.{SpeedParameter}
-use Rattle.parameters.specs.declared.speed_parameter.SpeedAdvanced.{SpeedAdvanced}
+use Rattle.start_time.specs.declared.When.{When}
+use Rattle.start_time.specs.declared.When.the-variants.{Later}
+use Rattle.value.specs.declared.Input.{Input}
+use Rattle.float_parameter.specs.FloatParameters as floats
+use Rattle.speed_parameter.specs.SpeedParameters as speeds
+use Rattle.course.specs.declared.Course.{Course}
+use Rattle.float_parameter.specs.declared.FloatState.{FloatState}
+use Rattle.float_parameter.specs.declared.FloatState.the-variants as float
+use Rattle.float_parameter.specs.declared.FloatParameter.{FloatParameter}
+use Rattle.float_parameter.specs.declared.FloatAdvanced.{FloatAdvanced}
+use Rattle.speed_parameter.specs.declared.SpeedState.{SpeedState}
+use Rattle.speed_parameter.specs.declared.SpeedState.the-variants as speed
+use Rattle.speed_parameter.specs.declared.SpeedParameter.{SpeedParameter}
+use Rattle.speed_parameter.specs.declared.SpeedAdvanced.{SpeedAdvanced}
 use Rattle.info.specs.Infos.{startDueOf, floatInputOf, speedInputOf}
 use Rattle.info.specs.declared.info.Info.{Info}
 

@@ -1,36 +1,30 @@
 // What is seen of all clocks and modulators, and the questions that are put to it.
 ghost use mathlib.Core.Path.{_≡_};
-ghost use Rattle.times.specs.Starts.{toldStart};
+ghost use Rattle.start_time.specs.Starts.{toldStart};
 ghost use Rattle.info.specs.Infos.{reachedOf, dueOf, whenToStartOf, modulatorValueOf, startDueOf, floatInputOf, speedInputOf, whenOf, toldWhen, startUpIn, rawFloatIn, rawSpeedIn, toldRawFloat, toldRawSpeed};
+use clock::ClockInfo;
+use judge::first_fault;
+use judge::fraction_faults;
+use start_time::StartTime;
+use start_time::StartUp;
+use start_time::When;
+use start_time::start_up;
 use tables::Found;
 use tables::Key;
 use tables::find;
-use times::judge::first_fault;
-use times::judge::fraction_faults;
-use times::start_time::StartTime;
-use times::start_time::StartUp;
-use times::start_time::When;
-use times::start_time::start_up;
-use times::time::ClockTime;
-use times::time::Order;
-use times::time::partial_cmp;
-use tweens::value::FloatValue;
-use tweens::value::Input;
-use tweens::value::ModulatorId;
-use tweens::value::RawFloat;
-use tweens::value::RawSpeed;
-use tweens::value::SpeedValue;
-use tweens::value::float_value_faults;
-use tweens::value::raw_float;
-use tweens::value::raw_speed;
-use tweens::value::speed_value_faults;
-
-// What is seen of one clock. A clock that has not started reads 0 and 0.0.
-pub struct ClockInfo {
-    pub ticking: bool,
-    pub ticks: u64,
-    pub fraction: f64,
-}
+use time::ClockTime;
+use time::Order;
+use time::partial_cmp;
+use value::FloatValue;
+use value::Input;
+use value::ModulatorId;
+use value::RawFloat;
+use value::RawSpeed;
+use value::SpeedValue;
+use value::float_value_faults;
+use value::raw_float;
+use value::raw_speed;
+use value::speed_value_faults;
 
 // A key and what is seen for each slot, of clocks and of modulators.
 pub struct Info {
@@ -85,7 +79,8 @@ fn due(c: ClockInfo, t: ClockTime) -> When
     When::Later
 }
 
-// When any clock time is due.
+// When any clock time is due. An array is copied out before it is indexed: an `Info` that is indexed itself is
+// copied whole.
 pub fn when_to_start(info: Info, t: ClockTime) -> When
     ensures { λ r. ⌜ r ≡ whenToStartOf info t ⌝ }
 {
@@ -94,7 +89,8 @@ pub fn when_to_start(info: Info, t: ClockTime) -> When
     let Found::At(i) = find(keys, id.slot, id.generation) else {
         return When::Never;
     };
-    let c = info.clocks[i];
+    let clocks = info.clocks;
+    let c = clocks[i];
     due(c, t)
 }
 
@@ -105,7 +101,8 @@ pub fn modulator_value(info: Info, id: ModulatorId) -> Input
     let Found::At(i) = find(keys, id.slot, id.generation) else {
         return Input::None;
     };
-    Input::Is(info.values[i])
+    let values = info.values;
+    Input::Is(values[i])
 }
 
 // When a start's clock time is due. A start with no clock does not ask.

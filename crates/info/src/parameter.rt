@@ -5,17 +5,17 @@ use crate::info::Info;
 use crate::info::float_input;
 use crate::info::speed_input;
 use crate::info::start_due;
-use parameters::course::Course;
-use parameters::float_parameter::FloatAdvanced;
-use parameters::float_parameter::FloatParameter;
-use parameters::float_parameter::FloatState;
-use parameters::float_parameter::advance_float;
-use parameters::speed_parameter::SpeedAdvanced;
-use parameters::speed_parameter::SpeedParameter;
-use parameters::speed_parameter::SpeedState;
-use parameters::speed_parameter::advance_speed;
-use times::start_time::When;
-use tweens::value::Input;
+use course::Course;
+use float_parameter::FloatAdvanced;
+use float_parameter::FloatParameter;
+use float_parameter::FloatState;
+use float_parameter::advance_float;
+use speed_parameter::SpeedAdvanced;
+use speed_parameter::SpeedParameter;
+use speed_parameter::SpeedState;
+use speed_parameter::advance_speed;
+use start_time::When;
+use value::Input;
 
 // When a course's start is due.
 pub fn course_due(info: Info, c: Course) -> When

@@ -10,10 +10,10 @@ use borrow.Author.Tests.{eqb-true}
 use Rattle.doubles.specs.Doubles.{zeroF}
 use Rattle.doubles.specs.Intervals.{Between}
 use Rattle.doubles.proofs.Unit.{order→le, le-of-not-lt}
-use Rattle.times.specs.Judge.{noFaults, bothFaults, dtFaults, badDt, firstFault}
-use Rattle.times.specs.declared.judge.Faults.{Faults}
-use Rattle.times.proofs.Judged.{none-set}
-use Rattle.times.proofs.Rates.{neither}
+use Rattle.judge.specs.Judge.{noFaults, bothFaults, dtFaults, badDt, firstFault}
+use Rattle.judge.specs.declared.Faults.{Faults}
+use Rattle.judge.proofs.Judged.{none-set}
+use Rattle.clock_speed.proofs.Rates.{neither}
 
 none : (f : Faults) → f .dt ≡ false → f .float ≡ false → f .speed ≡ false → f .ease ≡ false → f .map ≡ false → f .time ≡ false → f ≡ noFaults
 none f a b c d e g = go (f .dt) (f .float) (f .speed) (f .ease) (f .map) (f .time) a b c d e g

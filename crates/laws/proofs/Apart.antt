@@ -13,7 +13,7 @@ use Rattle.tables.proofs.Names as names
 use Rattle.tables.proofs.Places.{lives-parts, gives}
 use Rattle.commands.specs.declared.clock_command.ClockCommand.{ClockCommand}
 use Rattle.commands.specs.declared.modulator_command.ModulatorCommand.{ModulatorCommand}
-use Rattle.station.specs.declared.station.Station.{Station}
+use Rattle.station.specs.declared.Station.{Station}
 use Rattle.laws.specs.Calls.{Call, clock, modulator, after, Kind, keysOf, lives, Told, Target, targetOf, Touches, Stays, Untouched}
 use Rattle.laws.proofs.Deeds.{Deed, leaves, changes, removes, adds, turns, deed}
 

@@ -12,8 +12,8 @@ use borrow.Author.Tests.{le-ltb}
 use Rattle.doubles.specs.Doubles.{zeroF, oneF, signOf, fractOf}
 use Rattle.doubles.proofs.Rest.{fract-rest}
 use Rattle.doubles.proofs.Unit.{Side, On, no-times}
-use Rattle.times.specs.Judge.{badFraction}
-use Rattle.times.proofs.Rates.{neither}
+use Rattle.judge.specs.Judge.{badFraction}
+use Rattle.clock_speed.proofs.Rates.{neither}
 use Rattle.laws.proofs.Accepted.{plus-least}
 
 -- ---- what is asked of a fraction

@@ -21,24 +21,24 @@ use Rattle.ticks.specs.declared.Taken.{Taken}
 use Rattle.ticks.specs.declared.Taken.the-variants.{At, Full}
 use Rattle.ticks.proofs.Parts.{ticksOf}
 use Rattle.ticks.proofs.Sums.{reached, moved, kept}
-use Rattle.times.specs.Judge.{noFaults, dtFaults, firstFault}
-use Rattle.times.specs.Speeds.{tpsOf}
-use Rattle.times.specs.declared.start_time.When.{When}
-use Rattle.times.specs.declared.time.ClockId.{ClockId}
-use Rattle.tweens.specs.Values.{speedValueFaults}
-use Rattle.tweens.specs.declared.value.Input.{Input}
-use Rattle.tweens.specs.declared.value.SpeedValue.{SpeedValue}
-use Rattle.parameters.specs.SpeedParameters.{changeOf, updateOf}
-use Rattle.parameters.specs.declared.speed_parameter.SpeedParameter.{SpeedParameter}
-use Rattle.clocks.specs.OneClock.{defaultSpeed, newClock, positionOf, freshOf, advanceOf, sumOf, byTaken, noReport, tickingOf, spedOf, resetOf, tickOf, updateClockOf}
+use Rattle.judge.specs.Judge.{noFaults, dtFaults, firstFault}
+use Rattle.clock_speed.specs.Speeds.{tpsOf}
+use Rattle.start_time.specs.declared.When.{When}
+use Rattle.time.specs.declared.ClockId.{ClockId}
+use Rattle.value.specs.Values.{speedValueFaults}
+use Rattle.value.specs.declared.Input.{Input}
+use Rattle.value.specs.declared.SpeedValue.{SpeedValue}
+use Rattle.speed_parameter.specs.SpeedParameters.{changeOf, updateOf}
+use Rattle.speed_parameter.specs.declared.SpeedParameter.{SpeedParameter}
+use Rattle.clock.specs.OneClock.{defaultSpeed, newClock, positionOf, freshOf, advanceOf, sumOf, byTaken, noReport, tickingOf, spedOf, resetOf, tickOf, updateClockOf}
 use Rattle.clocks.specs.ClockTables.{refusedCall, refusedAdd, addAt, addClockOf, whereIs, onFound, changed, freed, bySet, removeOf, tickOnOf, resetClockOf, setSpeedOf}
-use Rattle.clocks.specs.declared.clock.Clock.{Clock}
-use Rattle.clocks.specs.declared.clock.ClockState.{ClockState}
-use Rattle.clocks.specs.declared.clock.Moved.{Moved}
-use Rattle.clocks.specs.declared.clock.Moved.the-variants.{Is, Refused}
-use Rattle.clocks.specs.declared.clocks.Clocks.{Clocks}
-use Rattle.clocks.specs.declared.clocks.ClockAdded.{ClockAdded}
-use Rattle.clocks.specs.declared.clocks.ClockDone.{ClockDone}
+use Rattle.clock.specs.declared.Clock.{Clock}
+use Rattle.clock.specs.declared.ClockState.{ClockState}
+use Rattle.clock.specs.declared.Moved.{Moved}
+use Rattle.clock.specs.declared.Moved.the-variants.{Is, Refused}
+use Rattle.clocks.specs.declared.Clocks.{Clocks}
+use Rattle.clocks.specs.declared.ClockAdded.{ClockAdded}
+use Rattle.clocks.specs.declared.ClockDone.{ClockDone}
 use Rattle.commands.specs.ClockCommands.{runClockOf}
 use Rattle.commands.specs.declared.clock_command.ClockCommand.{ClockCommand}
 use Rattle.commands.specs.declared.clock_command.ClockCommand.the-variants as command

@@ -14,25 +14,25 @@ use Rattle.tables.specs.declared.Room.{Room}
 use Rattle.tables.specs.declared.Room.the-variants as room
 use Rattle.tables.specs.declared.Found.{Found}
 use Rattle.tables.specs.declared.Found.the-variants as found
-use Rattle.times.specs.Answer.{Answer, accepted, refused}
-use Rattle.times.specs.Judge.{floatFaults, dtFaults, firstFault}
-use Rattle.times.specs.declared.judge.Faults.{Faults}
-use Rattle.times.specs.declared.time.ClockId.{ClockId}
-use Rattle.tweens.specs.Values.{speedValueFaults}
-use Rattle.tweens.specs.Waves.{waveFaults}
-use Rattle.tweens.specs.declared.value.ModulatorId.{ModulatorId}
-use Rattle.tweens.specs.declared.value.SpeedValue.{SpeedValue}
-use Rattle.parameters.specs.FloatParameters as floats
-use Rattle.parameters.specs.SpeedParameters as speeds
+use Rattle.judge.specs.Answer.{Answer, accepted, refused}
+use Rattle.judge.specs.Judge.{floatFaults, dtFaults, firstFault}
+use Rattle.judge.specs.declared.Faults.{Faults}
+use Rattle.time.specs.declared.ClockId.{ClockId}
+use Rattle.value.specs.Values.{speedValueFaults}
+use Rattle.waveform.specs.Waves.{waveFaults}
+use Rattle.value.specs.declared.ModulatorId.{ModulatorId}
+use Rattle.value.specs.declared.SpeedValue.{SpeedValue}
+use Rattle.float_parameter.specs.FloatParameters as floats
+use Rattle.speed_parameter.specs.SpeedParameters as speeds
 use Rattle.modulator.specs.Tweeners.{newTweener, setTweenerOf, tweenerFaults}
 use Rattle.modulator.specs.Lfos.{builderFaults, newLfo, parameterOf, withParameterOf, withWaveOf, withPhaseOf}
 use Rattle.modulator.specs.declared.lfo.Lfo.{Lfo}
 use Rattle.modulator.specs.declared.tweener.Tweener.{Tweener}
-use Rattle.clocks.specs.OneClock.{newClock, tickingOf, spedOf, resetOf}
+use Rattle.clock.specs.OneClock.{newClock, tickingOf, spedOf, resetOf}
 use Rattle.clocks.specs.ClockTables as clocks
-use Rattle.clocks.specs.declared.clock.Clock.{Clock}
-use Rattle.clocks.specs.declared.clocks.Clocks.{Clocks}
-use Rattle.clocks.specs.declared.clocks.ClockDone.{ClockDone}
+use Rattle.clock.specs.declared.Clock.{Clock}
+use Rattle.clocks.specs.declared.Clocks.{Clocks}
+use Rattle.clocks.specs.declared.ClockDone.{ClockDone}
 use Rattle.modulators.specs.ModulatorTables as modulators
 use Rattle.modulators.specs.declared.Modulator.{Modulator}
 use Rattle.modulators.specs.declared.Modulator.the-variants.{OfTweener, OfLfo}
@@ -54,9 +54,9 @@ use Rattle.commands.specs.declared.modulator_command.ModulatorAnswer.{Modulator
 use Rattle.commands.specs.declared.modulator_command.ModulatorAnswer.the-variants as modulatorAnswer
 use Rattle.commands.specs.declared.modulator_command.ModulatorRan.{ModulatorRan}
 use Rattle.station.specs.Stations.{infoIn}
-use Rattle.station.specs.Frames.{Try, went, stopped, seeing, turned, clockTurns, modulatorsTurned, clocksTurned, noReports, closed, undoneOf, framed, frameOf}
-use Rattle.station.specs.declared.frame.Framed.{Framed}
-use Rattle.station.specs.declared.station.Station.{Station}
+use Rattle.frame.specs.Frames.{Try, went, stopped, seeing, turned, clockTurns, modulatorsTurned, clocksTurned, noReports, closed, undoneOf, framed, frameOf}
+use Rattle.frame.specs.declared.Framed.{Framed}
+use Rattle.station.specs.declared.Station.{Station}
 use Rattle.laws.specs.Calls.{Call, clock, modulator, frame, after, Kind, ofClock, ofModulator, keysOf, entriesOf, Told, refusal, named, done, clockTold, modulatorTold, frameTold, told, Target, entry, none, all, clockTarget, modulatorTarget, targetOf}
 
 -- the answer gives no id of this kind

@@ -13,13 +13,13 @@ use Rattle.tables.specs.declared.Room.the-variants as room
 use Rattle.tables.specs.declared.Found.{Found}
 use Rattle.tables.specs.declared.Found.the-variants as found
 use Rattle.tables.proofs.Places.{read-set-same, read-set-other, lives-parts, gives}
-use Rattle.times.specs.Answer.{accepted, refused}
-use Rattle.times.specs.declared.time.ClockId.{ClockId}
+use Rattle.judge.specs.Answer.{accepted, refused}
+use Rattle.time.specs.declared.ClockId.{ClockId}
 use Rattle.clocks.specs.ClockTables.{onFound, readFound, whereIs}
-use Rattle.clocks.specs.declared.clock.Clock.{Clock}
-use Rattle.clocks.specs.declared.clocks.Clocks.{Clocks}
-use Rattle.clocks.specs.declared.clocks.ClockDone.{ClockDone}
-use Rattle.station.specs.declared.station.Station.{Station}
+use Rattle.clock.specs.declared.Clock.{Clock}
+use Rattle.clocks.specs.declared.Clocks.{Clocks}
+use Rattle.clocks.specs.declared.ClockDone.{ClockDone}
+use Rattle.station.specs.declared.Station.{Station}
 use Rattle.laws.specs.Calls.{Call, after, Kind, Entry, keysOf, entriesOf, lives, Told, Target, targetOf, Touches}
 use Rattle.laws.proofs.Apart.{two-slots}
 use Rattle.laws.proofs.Deeds.{Deed, leaves, changes, removes, adds, turns, deed}

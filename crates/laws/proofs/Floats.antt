@@ -6,31 +6,31 @@ use lib.Dec.{T, eqb}
 use lib.Ieee.{Float, nan, inf, fin, isNan}
 use lib.Ieee.Scale.{finite}
 use Rattle.doubles.proofs.Unit.{le→order, le-of-not-lt}
-use Rattle.times.specs.Judge.{noFaults, bothFaults, dtFaults, floatFaults, badFloat}
-use Rattle.times.specs.declared.judge.Faults.{Faults}
-use Rattle.times.specs.declared.start_time.When.{When}
-use Rattle.tweens.specs.Easings.{easeFaults, tweenFaults}
-use Rattle.tweens.specs.Values.{amountOf, mapFaults, rangeFaults, floatMapFaults, floatValueFaults, rawFloatOf, mapFloatOf}
-use Rattle.tweens.specs.declared.tween.Tween.{Tween}
-use Rattle.tweens.specs.declared.value.Input.{Input}
-use Rattle.tweens.specs.declared.value.Input.the-variants as input
-use Rattle.tweens.specs.declared.value.RawFloat.{RawFloat}
-use Rattle.tweens.specs.declared.value.RawFloat.the-variants as raws
-use Rattle.tweens.specs.declared.value.FloatMapping.{FloatMapping}
-use Rattle.tweens.specs.declared.value.FloatValue.{FloatValue}
-use Rattle.tweens.specs.declared.value.FloatValue.the-variants.{Fixed, FromModulator}
-use Rattle.tweens.proofs.Eased.{accepted-amount-unit}
-use Rattle.parameters.specs.FloatParameters.{fixedOf, newOf, firstOf, orLast, setOf, setFaults, changeOf, settledOf, towards, mixedOf, underWayOf, byStep, tweenedOf, byState, updateOf, advanceOf}
-use Rattle.parameters.specs.Courses.{stepOf, amountAt}
-use Rattle.parameters.specs.declared.course.Course.{Course}
-use Rattle.parameters.specs.declared.course.Stepped.{Stepped}
-use Rattle.parameters.specs.declared.course.Stepped.the-variants.{Waits, Goes, Ends}
-use Rattle.parameters.specs.declared.float_parameter.FloatTweening.{FloatTweening}
-use Rattle.parameters.specs.declared.float_parameter.FloatState.{FloatState}
-use Rattle.parameters.specs.declared.float_parameter.FloatState.the-variants.{Idle, Tweening}
-use Rattle.parameters.specs.declared.float_parameter.FloatParameter.{FloatParameter}
-use Rattle.parameters.specs.declared.float_parameter.FloatSet.{FloatSet}
-use Rattle.parameters.specs.declared.float_parameter.FloatAdvanced.{FloatAdvanced}
+use Rattle.judge.specs.Judge.{noFaults, bothFaults, dtFaults, floatFaults, badFloat}
+use Rattle.judge.specs.declared.Faults.{Faults}
+use Rattle.start_time.specs.declared.When.{When}
+use Rattle.tween.specs.Easings.{easeFaults, tweenFaults}
+use Rattle.value.specs.Values.{amountOf, mapFaults, rangeFaults, floatMapFaults, floatValueFaults, rawFloatOf, mapFloatOf}
+use Rattle.tween.specs.declared.Tween.{Tween}
+use Rattle.value.specs.declared.Input.{Input}
+use Rattle.value.specs.declared.Input.the-variants as input
+use Rattle.value.specs.declared.RawFloat.{RawFloat}
+use Rattle.value.specs.declared.RawFloat.the-variants as raws
+use Rattle.value.specs.declared.FloatMapping.{FloatMapping}
+use Rattle.value.specs.declared.FloatValue.{FloatValue}
+use Rattle.value.specs.declared.FloatValue.the-variants.{Fixed, FromModulator}
+use Rattle.value.proofs.Eased.{accepted-amount-unit}
+use Rattle.float_parameter.specs.FloatParameters.{fixedOf, newOf, firstOf, orLast, setOf, setFaults, changeOf, settledOf, towards, mixedOf, underWayOf, byStep, tweenedOf, byState, updateOf, advanceOf}
+use Rattle.course.specs.Courses.{stepOf, amountAt}
+use Rattle.course.specs.declared.Course.{Course}
+use Rattle.course.specs.declared.Stepped.{Stepped}
+use Rattle.course.specs.declared.Stepped.the-variants.{Waits, Goes, Ends}
+use Rattle.float_parameter.specs.declared.FloatTweening.{FloatTweening}
+use Rattle.float_parameter.specs.declared.FloatState.{FloatState}
+use Rattle.float_parameter.specs.declared.FloatState.the-variants.{Idle, Tweening}
+use Rattle.float_parameter.specs.declared.FloatParameter.{FloatParameter}
+use Rattle.float_parameter.specs.declared.FloatSet.{FloatSet}
+use Rattle.float_parameter.specs.declared.FloatAdvanced.{FloatAdvanced}
 use Rattle.laws.specs.Sound.{Double, Sized, SoundInput, FloatDoubles, SoundFloatValue, SoundCourse, SoundFloatTweening, SoundFloatState, SoundFloat}
 use Rattle.laws.proofs.Accepted.{no-faults, judged-case}
 use Rattle.laws.proofs.Signed.{within-finite, of-size, lerp-within}

@@ -10,10 +10,10 @@ use Rattle.tables.specs.Keys.{freeOf, takenAt, Spent, Numbered, Later, same, ad
 use Rattle.tables.specs.declared.Key.{Key}
 use Rattle.tables.specs.declared.Room.the-variants as room
 use Rattle.tables.proofs.Names as names
-use Rattle.times.specs.declared.time.ClockId.{ClockId}
-use Rattle.tweens.specs.declared.value.ModulatorId.{ModulatorId}
+use Rattle.time.specs.declared.ClockId.{ClockId}
+use Rattle.value.specs.declared.ModulatorId.{ModulatorId}
 use Rattle.clocks.specs.ClockTables as clocks
-use Rattle.clocks.specs.declared.clocks.ClockDone.{ClockDone}
+use Rattle.clocks.specs.declared.ClockDone.{ClockDone}
 use Rattle.modulators.specs.ModulatorTables as modulators
 use Rattle.modulators.specs.declared.ModulatorDone.{ModulatorDone}
 use Rattle.commands.specs.ClockCommands as clockRuns
@@ -23,7 +23,7 @@ use Rattle.commands.specs.ModulatorCommands.{runModulatorOf}
 use Rattle.commands.specs.declared.clock_command.ClockCommand.the-variants as clockCommand
 use Rattle.commands.specs.declared.modulator_command.ModulatorCommand.the-variants as modulatorCommand
 use Rattle.station.specs.Stations.{freshStation}
-use Rattle.station.specs.declared.station.Station.{Station}
+use Rattle.station.specs.declared.Station.{Station}
 use Rattle.laws.specs.Calls.{Call, clock, modulator, frame, after, afterAll, Kind, ofClock, ofModulator, keysOf, lives, Told, named, clockTold, modulatorTold, told, numberIn, numberOf, Target, all}
 use Rattle.laws.proofs.Deeds.{Deed, leaves, changes, removes, adds, turns, deed, found-case, read-case}
 

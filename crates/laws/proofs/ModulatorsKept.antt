@@ -14,22 +14,22 @@ use Rattle.tables.specs.Keys.{freeOf, livesIn}
 use Rattle.tables.specs.declared.Room.{Room}
 use Rattle.tables.specs.declared.Room.the-variants as room
 use Rattle.tables.proofs.Names as names
-use Rattle.times.specs.Durations.{secondsOf}
-use Rattle.times.specs.Judge.{noFaults, bothFaults, dtFaults, floatFaults, firstFault}
-use Rattle.times.specs.declared.judge.Faults.{Faults}
-use Rattle.times.specs.declared.start_time.When.{When}
-use Rattle.tweens.specs.Easings.{tweenFaults}
-use Rattle.tweens.specs.Values.{floatValueFaults}
-use Rattle.tweens.specs.Waves.{waveFaults, waveValueOf}
-use Rattle.tweens.specs.declared.tween.Tween.{Tween}
-use Rattle.tweens.specs.declared.value.ModulatorId.{ModulatorId}
-use Rattle.tweens.specs.declared.waveform.Waveform.{Waveform}
-use Rattle.parameters.specs.Courses.{startedOf, waits, stepOf, amountAt}
-use Rattle.parameters.specs.FloatParameters.{changeOf}
-use Rattle.parameters.specs.declared.course.Course.{Course}
-use Rattle.parameters.specs.declared.course.Stepped.{Stepped}
-use Rattle.parameters.specs.declared.course.Stepped.the-variants.{Waits, Goes, Ends}
-use Rattle.parameters.specs.declared.float_parameter.FloatParameter.{FloatParameter}
+use Rattle.duration.specs.Durations.{secondsOf}
+use Rattle.judge.specs.Judge.{noFaults, bothFaults, dtFaults, floatFaults, firstFault}
+use Rattle.judge.specs.declared.Faults.{Faults}
+use Rattle.start_time.specs.declared.When.{When}
+use Rattle.tween.specs.Easings.{tweenFaults}
+use Rattle.value.specs.Values.{floatValueFaults}
+use Rattle.waveform.specs.Waves.{waveFaults, waveValueOf}
+use Rattle.tween.specs.declared.Tween.{Tween}
+use Rattle.value.specs.declared.ModulatorId.{ModulatorId}
+use Rattle.waveform.specs.declared.Waveform.{Waveform}
+use Rattle.course.specs.Courses.{startedOf, waits, stepOf, amountAt}
+use Rattle.float_parameter.specs.FloatParameters.{changeOf}
+use Rattle.course.specs.declared.Course.{Course}
+use Rattle.course.specs.declared.Stepped.{Stepped}
+use Rattle.course.specs.declared.Stepped.the-variants.{Waits, Goes, Ends}
+use Rattle.float_parameter.specs.declared.FloatParameter.{FloatParameter}
 use Rattle.modulator.specs.Tweeners.{newTweener, tweenerFaults, setTweenerOf, byStep, byState, movedOf, updateTweenerOf}
 use Rattle.modulator.specs.Lfos.{tau, builderFaults, newLfo, parameterOf, withParameterOf, withWaveOf, withPhaseOf, updatedBy, phaseBy, valueBy, updateLfoOf}
 use Rattle.modulator.specs.declared.lfo.Lfo.{Lfo}

@@ -4,20 +4,20 @@ use mathlib.Core.Path.{_≡_, ap}
 use mathlib.Core.Bool.{true, false}
 use lib.Dec.{eqb}
 use native.Mathlib.Decide.{ℕ-discrete}
-use Rattle.times.specs.declared.time.ClockId.{ClockId}
-use Rattle.tweens.specs.declared.tween.Tween.{Tween}
-use Rattle.tweens.specs.declared.value.SpeedValue.{SpeedValue}
-use Rattle.parameters.specs.SpeedParameters.{changeOf}
-use Rattle.parameters.specs.declared.speed_parameter.SpeedParameter.{SpeedParameter}
-use Rattle.clocks.specs.OneClock.{tickingOf, spedOf, resetOf}
+use Rattle.time.specs.declared.ClockId.{ClockId}
+use Rattle.tween.specs.declared.Tween.{Tween}
+use Rattle.value.specs.declared.SpeedValue.{SpeedValue}
+use Rattle.speed_parameter.specs.SpeedParameters.{changeOf}
+use Rattle.speed_parameter.specs.declared.SpeedParameter.{SpeedParameter}
+use Rattle.clock.specs.OneClock.{tickingOf, spedOf, resetOf}
 use Rattle.clocks.specs.ClockTables.{whereIs, onFound, changed, refusedCall, bySet, tickOnOf, resetClockOf, setSpeedOf}
-use Rattle.clocks.specs.declared.clock.Clock.{Clock}
-use Rattle.clocks.specs.declared.clocks.Clocks.{Clocks}
-use Rattle.clocks.specs.declared.clocks.ClockDone.{ClockDone}
+use Rattle.clock.specs.declared.Clock.{Clock}
+use Rattle.clocks.specs.declared.Clocks.{Clocks}
+use Rattle.clocks.specs.declared.ClockDone.{ClockDone}
 use Rattle.commands.specs.ClockCommands.{runClockOf}
 use Rattle.commands.specs.declared.clock_command.ClockCommand.{ClockCommand}
 use Rattle.commands.specs.declared.clock_command.ClockCommand.the-variants as command
-use Rattle.station.specs.declared.station.Station.{Station}
+use Rattle.station.specs.declared.Station.{Station}
 use Rattle.laws.specs.Calls.{clock, ofClock, clockTarget, Touches}
 use Rattle.laws.proofs.Apart.{apart}
 use Rattle.laws.proofs.Deeds.{cond-case}

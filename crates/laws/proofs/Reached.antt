@@ -11,39 +11,39 @@ use Rattle.doubles.specs.Doubles.{zeroF}
 use Rattle.tables.specs.Lists.{readAt}
 use Rattle.tables.specs.declared.Key.{Key}
 use Rattle.tables.proofs.Names as names
-use Rattle.times.specs.Judge.{noFaults, dtFaults, firstFault}
-use Rattle.times.specs.Speeds.{tpsOf}
-use Rattle.times.specs.declared.clock_speed.ClockSpeed.the-variants.{TicksPerSecond}
-use Rattle.tweens.specs.declared.value.FloatValue.{FloatValue}
-use Rattle.tweens.specs.declared.value.FloatValue.the-variants as float
-use Rattle.tweens.specs.declared.value.Input.the-variants as input
-use Rattle.tweens.specs.declared.value.ModulatorId.{ModulatorId}
-use Rattle.tweens.specs.declared.value.SpeedValue.{SpeedValue}
-use Rattle.tweens.specs.declared.value.SpeedValue.the-variants as speed
-use Rattle.parameters.specs.declared.float_parameter.FloatState.{FloatState}
-use Rattle.parameters.specs.declared.float_parameter.FloatState.the-variants as floatState
-use Rattle.parameters.specs.declared.float_parameter.FloatParameter.{FloatParameter}
-use Rattle.parameters.specs.declared.speed_parameter.SpeedState.{SpeedState}
-use Rattle.parameters.specs.declared.speed_parameter.SpeedState.the-variants as speedState
-use Rattle.parameters.specs.declared.speed_parameter.SpeedParameter.{SpeedParameter}
+use Rattle.judge.specs.Judge.{noFaults, dtFaults, firstFault}
+use Rattle.clock_speed.specs.Speeds.{tpsOf}
+use Rattle.clock_speed.specs.declared.ClockSpeed.the-variants.{TicksPerSecond}
+use Rattle.value.specs.declared.FloatValue.{FloatValue}
+use Rattle.value.specs.declared.FloatValue.the-variants as float
+use Rattle.value.specs.declared.Input.the-variants as input
+use Rattle.value.specs.declared.ModulatorId.{ModulatorId}
+use Rattle.value.specs.declared.SpeedValue.{SpeedValue}
+use Rattle.value.specs.declared.SpeedValue.the-variants as speed
+use Rattle.float_parameter.specs.declared.FloatState.{FloatState}
+use Rattle.float_parameter.specs.declared.FloatState.the-variants as floatState
+use Rattle.float_parameter.specs.declared.FloatParameter.{FloatParameter}
+use Rattle.speed_parameter.specs.declared.SpeedState.{SpeedState}
+use Rattle.speed_parameter.specs.declared.SpeedState.the-variants as speedState
+use Rattle.speed_parameter.specs.declared.SpeedParameter.{SpeedParameter}
 use Rattle.info.specs.Infos.{valueFound, modulatorValueOf, floatInputOf, speedInputOf}
 use Rattle.info.specs.ParametersIn.{floatDueOf, floatSourceIn, floatSourceOf, updateFloatIn, speedDueOf, speedSourceIn, speedSourceOf, updateSpeedIn}
 use Rattle.info.specs.declared.info.Info.{Info}
-use Rattle.clocks.specs.OneClock.{newClock, positionOf}
-use Rattle.clocks.specs.declared.clock.Clock.{Clock}
-use Rattle.clocks.specs.declared.clock.Moved.{Moved}
-use Rattle.clocks.specs.declared.clock.Moved.the-variants.{Is, Refused}
-use Rattle.clocks.specs.declared.clock.Reported.{Reported}
+use Rattle.clock.specs.OneClock.{newClock, positionOf}
+use Rattle.clock.specs.declared.Clock.{Clock}
+use Rattle.clock.specs.declared.Moved.{Moved}
+use Rattle.clock.specs.declared.Moved.the-variants.{Is, Refused}
+use Rattle.clock.specs.declared.Reported.{Reported}
 use Rattle.modulator.specs.Tweeners.{newTweener}
 use Rattle.modulators.specs.ModulatorTables.{valueOf, slotOf}
 use Rattle.modulators.specs.declared.Modulator.{Modulator}
 use Rattle.modulators.specs.declared.Modulator.the-variants.{OfTweener, OfLfo}
 use Rattle.modulators.specs.declared.Slot.{Slot}
-use Rattle.station.specs.Frames.{Try, went, stopped, seeing, watching, modulatorTurn, modulatorTurns, turned, modulatorsTurned, placed, then, clockTurn, clockTurns, closed, clocksTurned, noReports, undoneOf, framed, frameOf}
+use Rattle.frame.specs.Frames.{Try, went, stopped, seeing, watching, modulatorTurn, modulatorTurns, turned, modulatorsTurned, placed, then, clockTurn, clockTurns, closed, clocksTurned, noReports, undoneOf, framed, frameOf}
 use Rattle.station.specs.Stations.{freshStation, slotValue, infoIn}
-use Rattle.station.specs.Turns.{tweenerDue, sightOf, turnModulator, turnClock}
-use Rattle.station.specs.declared.frame.Framed.{Framed}
-use Rattle.station.specs.declared.station.Station.{Station}
+use Rattle.turns.specs.Turns.{tweenerDue, sightOf, turnModulator, turnClock}
+use Rattle.frame.specs.declared.Framed.{Framed}
+use Rattle.station.specs.declared.Station.{Station}
 use Rattle.laws.specs.Calls.{Call, clock, modulator, frame, after, afterAll}
 use Rattle.laws.specs.Sound.{SoundInput, SoundFloat, SoundSpeed}
 use Rattle.laws.specs.SoundStation.{All, Number, SoundClock, SoundModulator, SoundSlot, SoundModulators, SoundStation, CallDoubles, Ticks, Shows}

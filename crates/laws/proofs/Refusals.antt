@@ -7,23 +7,23 @@ use mathlib.Core.List.{List}
 use lib.Dec.{eqb}
 use lib.Ieee.{Float}
 use Rattle.tables.specs.declared.Key.{Key}
-use Rattle.times.specs.Judge.{dtFaults, firstFault}
-use Rattle.times.specs.declared.start_time.When.{When}
-use Rattle.tweens.specs.declared.tween.Tween.{Tween}
-use Rattle.tweens.specs.declared.value.FloatValue.{FloatValue}
-use Rattle.tweens.specs.declared.value.Input.{Input}
-use Rattle.tweens.specs.declared.value.SpeedValue.{SpeedValue}
-use Rattle.parameters.specs.FloatParameters as floats
-use Rattle.parameters.specs.SpeedParameters as speeds
-use Rattle.parameters.specs.declared.float_parameter.FloatAdvanced.{FloatAdvanced}
-use Rattle.parameters.specs.declared.float_parameter.FloatParameter.{FloatParameter}
-use Rattle.parameters.specs.declared.float_parameter.FloatSet.{FloatSet}
-use Rattle.parameters.specs.declared.speed_parameter.SpeedAdvanced.{SpeedAdvanced}
-use Rattle.parameters.specs.declared.speed_parameter.SpeedParameter.{SpeedParameter}
-use Rattle.parameters.specs.declared.speed_parameter.SpeedSet.{SpeedSet}
-use Rattle.clocks.specs.declared.clock.Clock.{Clock}
+use Rattle.judge.specs.Judge.{dtFaults, firstFault}
+use Rattle.start_time.specs.declared.When.{When}
+use Rattle.tween.specs.declared.Tween.{Tween}
+use Rattle.value.specs.declared.FloatValue.{FloatValue}
+use Rattle.value.specs.declared.Input.{Input}
+use Rattle.value.specs.declared.SpeedValue.{SpeedValue}
+use Rattle.float_parameter.specs.FloatParameters as floats
+use Rattle.speed_parameter.specs.SpeedParameters as speeds
+use Rattle.float_parameter.specs.declared.FloatAdvanced.{FloatAdvanced}
+use Rattle.float_parameter.specs.declared.FloatParameter.{FloatParameter}
+use Rattle.float_parameter.specs.declared.FloatSet.{FloatSet}
+use Rattle.speed_parameter.specs.declared.SpeedAdvanced.{SpeedAdvanced}
+use Rattle.speed_parameter.specs.declared.SpeedParameter.{SpeedParameter}
+use Rattle.speed_parameter.specs.declared.SpeedSet.{SpeedSet}
+use Rattle.clock.specs.declared.Clock.{Clock}
 use Rattle.modulators.specs.declared.Slot.{Slot}
-use Rattle.station.specs.declared.station.Station.{Station}
+use Rattle.station.specs.declared.Station.{Station}
 use Rattle.laws.specs.Calls.{Call, after, Kind, ofClock, ofModulator, keysOf, entriesOf, Told, refusal, named, done, told, numberIn, numberOf, Target}
 use Rattle.laws.proofs.Deeds.{Deed, leaves, changes, removes, adds, turns, deed}
 

@@ -21,7 +21,7 @@ use Rattle.doubles.specs.Intervals.{Between, InUnit}
 use Rattle.doubles.proofs.Unit.{Side, Rounds, no-times, none, le→order, order→le, le-trans, between-finite, round-least, round-value, grid-le, upto-of-between, value-upto}
 use Rattle.doubles.proofs.Ranges.{Is, closest-over, grid-whole, rounds-is, is-mul, steady-40}
 use Rattle.doubles.proofs.Quotients.{gap, sum-gap, units-of}
-use Rattle.times.specs.Speeds.{interpolateOf}
+use Rattle.tweenable.specs.Tweenables.{interpolateOf}
 use Rattle.laws.specs.Sound.{Within, Sized}
 
 -- ---- a sum of sizes over another denominator

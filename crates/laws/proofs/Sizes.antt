@@ -6,12 +6,12 @@ use mathlib.Core.Path.{_≡_, refl, ap, _∙_}
 use mathlib.Core.List.{List, [], _∷_}
 use lib.ListN.{length, length-set}
 use Rattle.tables.specs.declared.Key.{Key}
-use Rattle.clocks.specs.declared.clocks.Clocks.{Clocks}
+use Rattle.clocks.specs.declared.Clocks.{Clocks}
 use Rattle.commands.specs.declared.clock_command.ClockCommand.{ClockCommand}
 use Rattle.commands.specs.declared.clock_command.ClockCommand.the-variants as command
-use Rattle.station.specs.Frames.{frameOf}
+use Rattle.frame.specs.Frames.{frameOf}
 use Rattle.station.specs.Stations.{freshStation}
-use Rattle.station.specs.declared.station.Station.{Station}
+use Rattle.station.specs.declared.Station.{Station}
 use Rattle.laws.specs.Calls.{Call, clock, modulator, frame, after, afterAll, Kind, ofClock, Told, Target, all, clockTarget}
 use Rattle.laws.proofs.Deeds.{Deed, leaves, changes, removes, adds, turns, deed}
 use Rattle.laws.proofs.Lives.{frame-keys}

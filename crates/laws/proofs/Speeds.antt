@@ -6,36 +6,36 @@ use lib.Dec.{T, eqb}
 use lib.Ieee.{Float, fin, le}
 use lib.Ieee.Scale.{finite}
 use Rattle.doubles.specs.Doubles.{zeroF}
-use Rattle.times.specs.Judge.{noFaults, bothFaults, dtFaults}
-use Rattle.times.specs.Speeds.{tpsOf, badReading, speedFaults, readFaults}
-use Rattle.times.specs.declared.judge.Faults.{Faults}
-use Rattle.times.specs.declared.clock_speed.ClockSpeed.{ClockSpeed}
-use Rattle.times.specs.declared.clock_speed.ClockSpeed.the-variants.{SecondsPerTick, TicksPerSecond, TicksPerMinute}
-use Rattle.times.specs.declared.start_time.When.{When}
-use Rattle.times.specs.RunningSpeeds.{Running, Reachable, numberOf}
-use Rattle.times.proofs.Rates.{like, mix-is, accepted-above, accepted-running, above-wider, interpolated-running, rate}
-use Rattle.tweens.specs.Easings.{tweenFaults}
-use Rattle.tweens.specs.Values.{speedValueFaults, rawSpeedOf, mapSpeedOf}
-use Rattle.tweens.specs.declared.tween.Tween.{Tween}
-use Rattle.tweens.specs.declared.value.Input.{Input}
-use Rattle.tweens.specs.declared.value.Input.the-variants as input
-use Rattle.tweens.specs.declared.value.RawSpeed.{RawSpeed}
-use Rattle.tweens.specs.declared.value.RawSpeed.the-variants as raws
-use Rattle.tweens.specs.declared.value.SpeedMapping.{SpeedMapping}
-use Rattle.tweens.specs.declared.value.SpeedValue.{SpeedValue}
-use Rattle.tweens.specs.declared.value.SpeedValue.the-variants.{Fixed, FromModulator}
-use Rattle.tweens.proofs.Eased.{mapped-reachable}
-use Rattle.parameters.specs.SpeedParameters.{fixedOf, newOf, firstOf, orLast, targetUnit, setOf, setFaults, changeOf, settledOf, towards, mixedOf, underWayOf, byStep, tweenedOf, byState, updateOf, advanceOf}
-use Rattle.parameters.specs.Courses.{stepOf, amountAt}
-use Rattle.parameters.specs.declared.course.Course.{Course}
-use Rattle.parameters.specs.declared.course.Stepped.{Stepped}
-use Rattle.parameters.specs.declared.course.Stepped.the-variants.{Waits, Goes, Ends}
-use Rattle.parameters.specs.declared.speed_parameter.SpeedTweening.{SpeedTweening}
-use Rattle.parameters.specs.declared.speed_parameter.SpeedState.{SpeedState}
-use Rattle.parameters.specs.declared.speed_parameter.SpeedState.the-variants.{Idle, Tweening}
-use Rattle.parameters.specs.declared.speed_parameter.SpeedParameter.{SpeedParameter}
-use Rattle.parameters.specs.declared.speed_parameter.SpeedSet.{SpeedSet}
-use Rattle.parameters.specs.declared.speed_parameter.SpeedAdvanced.{SpeedAdvanced}
+use Rattle.judge.specs.Judge.{noFaults, bothFaults, dtFaults}
+use Rattle.clock_speed.specs.Speeds.{tpsOf, badReading, speedFaults, readFaults}
+use Rattle.judge.specs.declared.Faults.{Faults}
+use Rattle.clock_speed.specs.declared.ClockSpeed.{ClockSpeed}
+use Rattle.clock_speed.specs.declared.ClockSpeed.the-variants.{SecondsPerTick, TicksPerSecond, TicksPerMinute}
+use Rattle.start_time.specs.declared.When.{When}
+use Rattle.clock_speed.specs.RunningSpeeds.{Running, Reachable, numberOf}
+use Rattle.clock_speed.proofs.Rates.{like, mix-is, accepted-above, accepted-running, above-wider, interpolated-running, rate}
+use Rattle.tween.specs.Easings.{tweenFaults}
+use Rattle.value.specs.Values.{speedValueFaults, rawSpeedOf, mapSpeedOf}
+use Rattle.tween.specs.declared.Tween.{Tween}
+use Rattle.value.specs.declared.Input.{Input}
+use Rattle.value.specs.declared.Input.the-variants as input
+use Rattle.value.specs.declared.RawSpeed.{RawSpeed}
+use Rattle.value.specs.declared.RawSpeed.the-variants as raws
+use Rattle.value.specs.declared.SpeedMapping.{SpeedMapping}
+use Rattle.value.specs.declared.SpeedValue.{SpeedValue}
+use Rattle.value.specs.declared.SpeedValue.the-variants.{Fixed, FromModulator}
+use Rattle.value.proofs.Eased.{mapped-reachable}
+use Rattle.speed_parameter.specs.SpeedParameters.{fixedOf, newOf, firstOf, orLast, targetUnit, setOf, setFaults, changeOf, settledOf, towards, mixedOf, underWayOf, byStep, tweenedOf, byState, updateOf, advanceOf}
+use Rattle.course.specs.Courses.{stepOf, amountAt}
+use Rattle.course.specs.declared.Course.{Course}
+use Rattle.course.specs.declared.Stepped.{Stepped}
+use Rattle.course.specs.declared.Stepped.the-variants.{Waits, Goes, Ends}
+use Rattle.speed_parameter.specs.declared.SpeedTweening.{SpeedTweening}
+use Rattle.speed_parameter.specs.declared.SpeedState.{SpeedState}
+use Rattle.speed_parameter.specs.declared.SpeedState.the-variants.{Idle, Tweening}
+use Rattle.speed_parameter.specs.declared.SpeedParameter.{SpeedParameter}
+use Rattle.speed_parameter.specs.declared.SpeedSet.{SpeedSet}
+use Rattle.speed_parameter.specs.declared.SpeedAdvanced.{SpeedAdvanced}
 use Rattle.laws.specs.Sound.{Double, SoundInput, SpeedDoubles, SoundSpeedValue, SoundCourse, SoundSpeedTweening, SoundSpeedState, SoundSpeed}
 use Rattle.laws.proofs.Accepted.{no-faults, judged-case}
 use Rattle.laws.proofs.Underway.{SoundStepped, amount-unit, begun, step-sound}

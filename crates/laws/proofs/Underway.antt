@@ -18,22 +18,22 @@ use Rattle.doubles.proofs.Held.{held}
 use Rattle.doubles.specs.Intervals.{Between, InUnit}
 use Rattle.doubles.proofs.Unit.{le-trans, le-same, le-of-not-lt, between-is, between-finite, between-wider, finite-is, round-least, add-mono}
 use Rattle.doubles.proofs.Quotients.{div-mono}
-use Rattle.times.specs.Durations.{nanosOf, secondsOf}
-use Rattle.times.specs.Judge.{noFaults, bothFaults, badSpan, spanFaults, dtFaults}
-use Rattle.times.specs.Starts.{startFaults}
-use Rattle.times.specs.declared.judge.Faults.{Faults}
-use Rattle.times.specs.declared.start_time.StartTime.{StartTime}
-use Rattle.times.specs.declared.start_time.StartTime.the-variants.{Immediate, Delayed, At}
-use Rattle.times.specs.declared.start_time.When.{When}
-use Rattle.times.proofs.Judged.{joined}
-use Rattle.times.proofs.Rates.{neither}
-use Rattle.tweens.specs.Easings.{tweenFaults, tweenValueOf, easeFaults}
-use Rattle.tweens.specs.declared.tween.Tween.{Tween}
-use Rattle.tweens.proofs.Eased.{eased-unit}
-use Rattle.parameters.specs.Courses.{newCourse, startedOf, waitedOf, waits, goes, stepOf, amountAt}
-use Rattle.parameters.specs.declared.course.Course.{Course}
-use Rattle.parameters.specs.declared.course.Stepped.{Stepped}
-use Rattle.parameters.specs.declared.course.Stepped.the-variants.{Waits, Goes, Ends}
+use Rattle.duration.specs.Durations.{nanosOf, secondsOf}
+use Rattle.judge.specs.Judge.{noFaults, bothFaults, badSpan, spanFaults, dtFaults}
+use Rattle.start_time.specs.Starts.{startFaults}
+use Rattle.judge.specs.declared.Faults.{Faults}
+use Rattle.start_time.specs.declared.StartTime.{StartTime}
+use Rattle.start_time.specs.declared.StartTime.the-variants.{Immediate, Delayed, At}
+use Rattle.start_time.specs.declared.When.{When}
+use Rattle.judge.proofs.Judged.{joined}
+use Rattle.clock_speed.proofs.Rates.{neither}
+use Rattle.tween.specs.Easings.{tweenFaults, tweenValueOf, easeFaults}
+use Rattle.tween.specs.declared.Tween.{Tween}
+use Rattle.value.proofs.Eased.{eased-unit}
+use Rattle.course.specs.Courses.{newCourse, startedOf, waitedOf, waits, goes, stepOf, amountAt}
+use Rattle.course.specs.declared.Course.{Course}
+use Rattle.course.specs.declared.Stepped.{Stepped}
+use Rattle.course.specs.declared.Stepped.the-variants.{Waits, Goes, Ends}
 use Rattle.laws.specs.Sound.{SoundCourse}
 use Rattle.laws.proofs.Accepted.{no-faults, dt-range}
 

@@ -17,10 +17,10 @@ use Rattle.doubles.specs.Doubles.{zeroF, oneF, twoF, halfF, fractOf, absOf}
 use Rattle.doubles.proofs.Rest.{fract-rest}
 use Rattle.doubles.proofs.Unit.{Side, Upto, Rounds, between-wider, no-times, on-of-upto, round-upto, mul-rounds, rounds-upto}
 use Rattle.doubles.proofs.Quotients.{gap, sum-gap}
-use Rattle.times.specs.Judge.{noFaults, dtFaults}
-use Rattle.tweens.specs.Waves.{triangleOf, sawOf, waveValueOf}
-use Rattle.tweens.specs.declared.waveform.Waveform.{Waveform}
-use Rattle.tweens.specs.declared.waveform.Waveform.the-variants.{Triangle, Saw, Pulse}
+use Rattle.judge.specs.Judge.{noFaults, dtFaults}
+use Rattle.waveform.specs.Waves.{triangleOf, sawOf, waveValueOf}
+use Rattle.waveform.specs.declared.Waveform.{Waveform}
+use Rattle.waveform.specs.declared.Waveform.the-variants.{Triangle, Saw, Pulse}
 use Rattle.laws.specs.Sound.{Within}
 use Rattle.laws.proofs.Accepted.{dt-range}
 use Rattle.laws.proofs.Signed.{apart, summed, within-finite, size-of, of-size}

@@ -8,7 +8,7 @@ use lib.Dec.{eqb}
 use lib.Ieee.{Float}
 use Rattle.tables.specs.Keys.{livesIn}
 use Rattle.tables.specs.declared.Key.{Key}
-use Rattle.clocks.specs.declared.clock.Clock.{Clock}
+use Rattle.clock.specs.declared.Clock.{Clock}
 use Rattle.modulators.specs.declared.Slot.{Slot}
 use Rattle.commands.specs.ClockCommands.{runClockOf}
 use Rattle.commands.specs.ModulatorCommands.{runModulatorOf}
@@ -20,8 +20,8 @@ use Rattle.commands.specs.declared.modulator_command.ModulatorCommand.{Modulato
 use Rattle.commands.specs.declared.modulator_command.ModulatorCommand.the-variants as modulators
 use Rattle.commands.specs.declared.modulator_command.ModulatorAnswer.{ModulatorAnswer}
 use Rattle.commands.specs.declared.modulator_command.ModulatorAnswer.the-variants as modulatorAnswer
-use Rattle.station.specs.Frames.{frameOf}
-use Rattle.station.specs.declared.station.Station.{Station}
+use Rattle.frame.specs.Frames.{frameOf}
+use Rattle.station.specs.declared.Station.{Station}
 
 -- ---- calls
 

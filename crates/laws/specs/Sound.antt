@@ -8,28 +8,28 @@ use lib.Ieee.{Float, fin, binary64, fits}
 use lib.Ieee.Scale.{finite}
 use Rattle.doubles.specs.Doubles.{zeroF}
 use Rattle.doubles.specs.Intervals.{Between}
-use Rattle.times.specs.Durations.{secondsOf}
-use Rattle.times.specs.Judge.{noFaults}
-use Rattle.times.specs.Speeds.{badReading}
-use Rattle.times.specs.RunningSpeeds.{Running, numberOf}
-use Rattle.tweens.specs.Easings.{tweenFaults}
-use Rattle.tweens.specs.Values.{floatValueFaults, speedValueFaults}
-use Rattle.tweens.specs.declared.value.Input.{Input}
-use Rattle.tweens.specs.declared.value.Input.the-variants as input
-use Rattle.tweens.specs.declared.value.FloatValue.{FloatValue}
-use Rattle.tweens.specs.declared.value.FloatValue.the-variants as float
-use Rattle.tweens.specs.declared.value.SpeedValue.{SpeedValue}
-use Rattle.tweens.specs.declared.value.SpeedValue.the-variants as speed
-use Rattle.parameters.specs.SpeedParameters.{targetUnit}
-use Rattle.parameters.specs.declared.course.Course.{Course}
-use Rattle.parameters.specs.declared.float_parameter.FloatTweening.{FloatTweening}
-use Rattle.parameters.specs.declared.float_parameter.FloatState.{FloatState}
-use Rattle.parameters.specs.declared.float_parameter.FloatState.the-variants as floatState
-use Rattle.parameters.specs.declared.float_parameter.FloatParameter.{FloatParameter}
-use Rattle.parameters.specs.declared.speed_parameter.SpeedTweening.{SpeedTweening}
-use Rattle.parameters.specs.declared.speed_parameter.SpeedState.{SpeedState}
-use Rattle.parameters.specs.declared.speed_parameter.SpeedState.the-variants as speedState
-use Rattle.parameters.specs.declared.speed_parameter.SpeedParameter.{SpeedParameter}
+use Rattle.duration.specs.Durations.{secondsOf}
+use Rattle.judge.specs.Judge.{noFaults}
+use Rattle.clock_speed.specs.Speeds.{badReading}
+use Rattle.clock_speed.specs.RunningSpeeds.{Running, numberOf}
+use Rattle.tween.specs.Easings.{tweenFaults}
+use Rattle.value.specs.Values.{floatValueFaults, speedValueFaults}
+use Rattle.value.specs.declared.Input.{Input}
+use Rattle.value.specs.declared.Input.the-variants as input
+use Rattle.value.specs.declared.FloatValue.{FloatValue}
+use Rattle.value.specs.declared.FloatValue.the-variants as float
+use Rattle.value.specs.declared.SpeedValue.{SpeedValue}
+use Rattle.value.specs.declared.SpeedValue.the-variants as speed
+use Rattle.speed_parameter.specs.SpeedParameters.{targetUnit}
+use Rattle.course.specs.declared.Course.{Course}
+use Rattle.float_parameter.specs.declared.FloatTweening.{FloatTweening}
+use Rattle.float_parameter.specs.declared.FloatState.{FloatState}
+use Rattle.float_parameter.specs.declared.FloatState.the-variants as floatState
+use Rattle.float_parameter.specs.declared.FloatParameter.{FloatParameter}
+use Rattle.speed_parameter.specs.declared.SpeedTweening.{SpeedTweening}
+use Rattle.speed_parameter.specs.declared.SpeedState.{SpeedState}
+use Rattle.speed_parameter.specs.declared.SpeedState.the-variants as speedState
+use Rattle.speed_parameter.specs.declared.SpeedParameter.{SpeedParameter}
 
 -- ---- numbers
 

@@ -9,14 +9,14 @@ use lib.Ieee.Scale.{finite}
 use Rattle.doubles.specs.Doubles.{zeroF, oneF, signOf}
 use Rattle.tables.specs.Keys.{Numbered}
 use Rattle.ticks.specs.declared.Position.{Position}
-use Rattle.times.specs.Judge.{noFaults, badFraction}
-use Rattle.times.specs.Speeds.{tpsOf}
-use Rattle.tweens.specs.Waves.{waveFaults}
-use Rattle.tweens.specs.declared.waveform.Waveform.{Waveform}
-use Rattle.tweens.specs.declared.waveform.Waveform.the-variants.{Triangle, Saw, Pulse}
-use Rattle.clocks.specs.OneClock.{positionOf}
-use Rattle.clocks.specs.declared.clock.Clock.{Clock}
-use Rattle.clocks.specs.declared.clocks.Clocks.{Clocks}
+use Rattle.judge.specs.Judge.{noFaults, badFraction}
+use Rattle.clock_speed.specs.Speeds.{tpsOf}
+use Rattle.waveform.specs.Waves.{waveFaults}
+use Rattle.waveform.specs.declared.Waveform.{Waveform}
+use Rattle.waveform.specs.declared.Waveform.the-variants.{Triangle, Saw, Pulse}
+use Rattle.clock.specs.OneClock.{positionOf}
+use Rattle.clock.specs.declared.Clock.{Clock}
+use Rattle.clocks.specs.declared.Clocks.{Clocks}
 use Rattle.modulator.specs.declared.lfo.Lfo.{Lfo}
 use Rattle.modulator.specs.declared.lfo.LfoBuilder.{LfoBuilder}
 use Rattle.modulator.specs.declared.tweener.Tweener.{Tweener}
@@ -32,7 +32,7 @@ use Rattle.commands.specs.declared.clock_command.ClockCommand.the-variants as c
 use Rattle.commands.specs.declared.modulator_command.ModulatorCommand.{ModulatorCommand}
 use Rattle.commands.specs.declared.modulator_command.ModulatorCommand.the-variants as modulators
 use Rattle.station.specs.Stations.{slotValue}
-use Rattle.station.specs.declared.station.Station.{Station}
+use Rattle.station.specs.declared.Station.{Station}
 use Rattle.laws.specs.Calls.{Call, clock, modulator, frame}
 use Rattle.laws.specs.Sound.{Double, Sized, FloatDoubles, SpeedDoubles, SoundCourse, SoundFloat, SoundSpeed}
 

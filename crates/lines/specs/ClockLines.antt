@@ -3,7 +3,7 @@ use Prim.Native.Nat.{ℕ}
 use mathlib.Core.Bool.{cond}
 use mathlib.Core.List.{List, [], _∷_}
 use Rattle.text.specs.declared.Word.{Word}
-use Rattle.times.specs.declared.time.ClockId.{ClockId}
+use Rattle.time.specs.declared.ClockId.{ClockId}
 use Rattle.grammar.specs.Grammar.{named, endedAt, idAt, withId}
 use Rattle.commands.specs.declared.clock_command.ClockCommand.the-variants.{Add, Remove, Start, Stop, Reset, SetSpeed, Time, Ticking, Speed}
 use Rattle.lines.specs.Things.{speedValueAt, tweenAt, withSpeedValue, withTween}

@@ -3,9 +3,9 @@ use Prim.Native.Nat.{ℕ}
 use mathlib.Core.Bool.{cond}
 use mathlib.Core.List.{List, [], _∷_}
 use Rattle.text.specs.declared.Word.{Word}
-use Rattle.tweens.specs.declared.value.FloatValue.{FloatValue}
-use Rattle.tweens.specs.declared.value.ModulatorId.{ModulatorId}
-use Rattle.tweens.specs.declared.waveform.Waveform.{Waveform}
+use Rattle.value.specs.declared.FloatValue.{FloatValue}
+use Rattle.value.specs.declared.ModulatorId.{ModulatorId}
+use Rattle.waveform.specs.declared.Waveform.{Waveform}
 use Rattle.grammar.specs.Grammar.{named, endedAt, floatAt, idAt, floatValueAt, waveAt, withFloat, withId}
 use Rattle.grammar.specs.declared.FloatValueAt.{FloatValueAt}
 use Rattle.grammar.specs.declared.FloatValueAt.the-variants as floatValue

@@ -2,11 +2,11 @@
 use Prim.Native.Nat.{ℕ}
 use mathlib.Core.Bool.{cond}
 use mathlib.Core.List.{List}
-use Rattle.times.specs.declared.start_time.StartTime.{StartTime}
-use Rattle.tweens.specs.declared.tween.Tween.{Tween}
-use Rattle.tweens.specs.declared.value.SpeedMapping.{SpeedMapping}
-use Rattle.tweens.specs.declared.value.SpeedValue.{SpeedValue}
-use Rattle.tweens.specs.declared.value.SpeedValue.the-variants.{Fixed, FromModulator}
+use Rattle.start_time.specs.declared.StartTime.{StartTime}
+use Rattle.tween.specs.declared.Tween.{Tween}
+use Rattle.value.specs.declared.SpeedMapping.{SpeedMapping}
+use Rattle.value.specs.declared.SpeedValue.{SpeedValue}
+use Rattle.value.specs.declared.SpeedValue.the-variants.{Fixed, FromModulator}
 use Rattle.grammar.specs.Grammar.{firstWord, named, «fix», «mod», idAt, numberAt, speedAt, easeAt, startAt, speedMapAt, withId, withNumber, withSpeed, withEase}
 use Rattle.grammar.specs.declared.StartAt.{StartAt}
 use Rattle.grammar.specs.declared.StartAt.the-variants as start

@@ -8,7 +8,7 @@ use crate::values::tween;
 use commands::clock_command::ClockCommand;
 use grammar::IdAt;
 use text::Word;
-use times::time::ClockId;
+use time::ClockId;
 
 pub enum ClockLine {
     Is(ClockCommand),

@@ -11,7 +11,7 @@ use grammar::WaveAt;
 use modulator::lfo::LfoBuilder;
 use modulator::lfo::LfoParameter;
 use text::Word;
-use tweens::value::ModulatorId;
+use value::ModulatorId;
 
 pub enum ModulatorLine {
     Is(ModulatorCommand),

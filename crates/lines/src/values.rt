@@ -7,9 +7,9 @@ use grammar::NumberAt;
 use grammar::SpeedAt;
 use grammar::SpeedMapAt;
 use grammar::StartAt;
-use tweens::tween::Tween;
-use tweens::value::ModulatorId;
-use tweens::value::SpeedValue;
+use tween::Tween;
+use value::ModulatorId;
+use value::SpeedValue;
 
 pub enum SpeedValueAt {
     Is(SpeedValue, usize),

@@ -3,13 +3,13 @@ use mathlib.Core.Bool.{false}
 use lib.IntN.{negsuc}
 use lib.Ieee.{Float, fin, binary64, add, mul, div, rem}
 use Rattle.doubles.specs.Doubles.{zeroF, oneF, twoF}
-use Rattle.times.specs.Judge.{bothFaults, floatFaults}
-use Rattle.times.specs.declared.judge.Faults.{Faults}
-use Rattle.tweens.specs.Values.{floatValueFaults}
-use Rattle.tweens.specs.Waves.{waveFaults, waveValueOf}
-use Rattle.tweens.specs.declared.waveform.Waveform.{Waveform}
-use Rattle.parameters.specs.FloatParameters.{newOf, updateOf}
-use Rattle.parameters.specs.declared.float_parameter.FloatParameter.{FloatParameter}
+use Rattle.judge.specs.Judge.{bothFaults, floatFaults}
+use Rattle.judge.specs.declared.Faults.{Faults}
+use Rattle.value.specs.Values.{floatValueFaults}
+use Rattle.waveform.specs.Waves.{waveFaults, waveValueOf}
+use Rattle.waveform.specs.declared.Waveform.{Waveform}
+use Rattle.float_parameter.specs.FloatParameters.{newOf, updateOf}
+use Rattle.float_parameter.specs.declared.FloatParameter.{FloatParameter}
 use Rattle.modulator.specs.declared.lfo.LfoBuilder.{LfoBuilder}
 use Rattle.modulator.specs.declared.lfo.Lfo.{Lfo}
 use Rattle.modulator.specs.declared.lfo.LfoParameter.{LfoParameter}

@@ -1,15 +1,15 @@
 -- Document 01, "modulator/tweener.rs": "The tweener starts as a parameter does and holds its value while waiting." Assumes nothing.
 use lib.Ieee.{Float}
-use Rattle.times.specs.Judge.{bothFaults, floatFaults}
-use Rattle.times.specs.Speeds.{interpolateOf}
-use Rattle.times.specs.declared.judge.Faults.{Faults}
-use Rattle.times.specs.declared.start_time.When.{When}
-use Rattle.tweens.specs.Easings.{tweenFaults}
-use Rattle.tweens.specs.declared.tween.Tween.{Tween}
-use Rattle.parameters.specs.Courses.{newCourse, stepOf, amountAt}
-use Rattle.parameters.specs.declared.course.Course.{Course}
-use Rattle.parameters.specs.declared.course.Stepped.{Stepped}
-use Rattle.parameters.specs.declared.course.Stepped.the-variants.{Waits, Goes, Ends}
+use Rattle.judge.specs.Judge.{bothFaults, floatFaults}
+use Rattle.tweenable.specs.Tweenables.{interpolateOf}
+use Rattle.judge.specs.declared.Faults.{Faults}
+use Rattle.start_time.specs.declared.When.{When}
+use Rattle.tween.specs.Easings.{tweenFaults}
+use Rattle.tween.specs.declared.Tween.{Tween}
+use Rattle.course.specs.Courses.{newCourse, stepOf, amountAt}
+use Rattle.course.specs.declared.Course.{Course}
+use Rattle.course.specs.declared.Stepped.{Stepped}
+use Rattle.course.specs.declared.Stepped.the-variants.{Waits, Goes, Ends}
 use Rattle.modulator.specs.declared.tweener.TweenerMove.{TweenerMove}
 use Rattle.modulator.specs.declared.tweener.TweenerState.{TweenerState}
 use Rattle.modulator.specs.declared.tweener.TweenerState.the-variants.{Idle, Tweening}

@@ -1,19 +1,19 @@
 // An LFO, as modulator/lfo.rs has it.
 ghost use mathlib.Core.Path.{_≡_};
 ghost use Rattle.modulator.specs.Lfos.{turnsOf, newLfo, builderFaults, parameterOf, withParameterOf, withWaveOf, withPhaseOf, updatedBy, updateLfoOf};
-use parameters::float_parameter::FloatParameter;
-use parameters::float_parameter::new_float;
-use parameters::float_parameter::update_float;
-use times::judge::Faults;
-use times::judge::both;
-use times::judge::float_faults;
-use times::start_time::When;
-use tweens::value::FloatValue;
-use tweens::value::Input;
-use tweens::value::float_value_faults;
-use tweens::waveform::Waveform;
-use tweens::waveform::wave_faults;
-use tweens::waveform::wave_value;
+use float_parameter::FloatParameter;
+use float_parameter::new_float;
+use float_parameter::update_float;
+use judge::Faults;
+use judge::both;
+use judge::float_faults;
+use start_time::When;
+use value::FloatValue;
+use value::Input;
+use value::float_value_faults;
+use waveform::Waveform;
+use waveform::wave_faults;
+use waveform::wave_value;
 
 // What an LFO is made from. The starting phase is in radians.
 pub struct LfoBuilder {

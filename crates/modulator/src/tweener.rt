@@ -1,18 +1,18 @@
 // A tweener, as modulator/tweener.rs has it.
 ghost use mathlib.Core.Path.{_≡_};
 ghost use Rattle.modulator.specs.Tweeners.{newTweener, setTweenerOf, tweenerFaults, onCourse, movedOf, updateTweenerOf};
-use parameters::course::Course;
-use parameters::course::Stepped;
-use parameters::course::amount;
-use parameters::course::begin;
-use parameters::course::step;
-use times::judge::Faults;
-use times::judge::both;
-use times::judge::float_faults;
-use times::start_time::When;
-use times::tweenable::interpolate;
-use tweens::tween::Tween;
-use tweens::tween::tween_faults;
+use course::Course;
+use course::Stepped;
+use course::amount;
+use course::begin;
+use course::step;
+use judge::Faults;
+use judge::both;
+use judge::float_faults;
+use start_time::When;
+use tween::Tween;
+use tween::tween_faults;
+use tweenable::interpolate;
 
 // A tween under way: from a value to a target.
 pub struct TweenerMove {

@@ -3,10 +3,11 @@ use Prim.Native.Nat.{ℕ, _<_}
 use native.Mathlib.Omega.{arith}
 use mathlib.Core.Path.{_≡_, sym, ap, _∙_}
 use mathlib.Core.List.{List}
-use lib.ListN.{length, length-map, getD}
+use lib.ListN.{length, length-map}
 use mir.Val.{Val}
 use denote.Laws.{Is}
 use denote.Struct.Declared.{row}
+use Rattle.doubles.specs.Doubles.{zeroF}
 use Rattle.tables.specs.Keys.{freeOf}
 use Rattle.tables.specs.Lists.{readAt}
 use Rattle.tables.specs.declared.Found.{Found}
@@ -14,9 +15,12 @@ use Rattle.tables.specs.declared.Found.the-variants as found
 use Rattle.tables.specs.declared.Room.{Room}
 use Rattle.tables.specs.declared.Room.the-variants as room
 use Rattle.tables.proofs.Places.{found-inside, room-inside, read-at}
-use Rattle.tweens.specs.declared.value.ModulatorId.{ModulatorId}
-use Rattle.modulators.specs.ModulatorTables.{slotOf, whereIs, changed}
+use Rattle.value.specs.declared.ModulatorId.{ModulatorId}
+use Rattle.modulator.specs.Tweeners.{newTweener}
+use Rattle.modulators.specs.ModulatorTables.{slotOf, whereIs}
+use Rattle.modulators.specs.Entries.{modulatorAt}
 use Rattle.modulators.specs.declared.Modulator.{Modulator}
+use Rattle.modulators.specs.declared.Modulator.the-variants.{OfTweener}
 use Rattle.modulators.specs.declared.Slot.{Slot}
 use Rattle.modulators.specs.declared.Modulators.{Modulators}
 use Rattle.modulators.proofs.Modulators.{the-type}
@@ -32,15 +36,14 @@ pub record Place (t : Modulators) (i g : ℕ) : Type 0 where
   pub is : freeOf 0 (t .keys) ≡ room.At i g
   pub below : i < 16
 
--- the entry, by the element that the code reads
-pub holds :
-    {B : Type 0} (none : B) (f : Slot → B) {t : Modulators} {id : ModulatorId} {i : ℕ} → Lookup t id i → (d : Slot) {m : Modulator}
-    → getD (t .slots) i d .modulator ≡ m → readAt none f (t .slots) i ≡ f (slotOf m)
-holds none f {t} {id} {i} l d e = read-at none f (t .slots) i d (l .inside) ∙ ap (λ (m : Modulator). f (slotOf m)) e
-
--- the table with an entry anew: t and i are read off the lookup
-pub anew : {t : Modulators} {id : ModulatorId} {i : ℕ} → Lookup t id i → {m n : Modulator} → m ≡ n → changed t i m ≡ changed t i n
-anew {t} {id} {i} l e = ap (changed t i) e
+-- the entry, by the modulator that the code reads
+pub read-modulator :
+    {B : Type 0} (none : B) (f : Modulator → B) (t : Modulators) (i : ℕ) → i < length (t .slots)
+    → readAt none (λ s. f (s .modulator)) (t .slots) i ≡ f (modulatorAt t i)
+unfolding modulatorAt
+read-modulator none f t i h =
+    let d : Slot = slotOf (OfTweener (newTweener zeroF)) in
+    read-at none (λ s. f (s .modulator)) (t .slots) i d h ∙ ap f (sym (read-at (OfTweener (newTweener zeroF)) (λ s. s .modulator) (t .slots) i d h))
 
 -- what owning a table tells: each of its arrays has 16 elements
 module _ (t : Modulators) {vs : List Val} (owned : Is (row the-type) t vs) where

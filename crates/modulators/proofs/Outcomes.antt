@@ -1,6 +1,6 @@
 -- Any two outcomes that a statement allows coincide, for each public function of the crate: `One` of the crate `doubles` says it of the very clause that the check reads off the source. A clause says what the result is, or what it tells, and no two results tell the same. Assumes nothing.
 use Rattle.doubles.proofs.Outcomes.{One, equal}
-use Rattle.times.proofs.Outcomes.{same-float, told}
+use Rattle.judge.proofs.Outcomes.{same-float, told}
 use Rattle.modulators.proofs.value.Reads as value
 use Rattle.modulators.proofs.value.Kinds as value-kinds
 use Rattle.modulators.proofs.no_modulators.Reads as no-modulators

@@ -1,1 +1,3 @@
 pub mod ModulatorTables
+pub mod Entries
+pub mod Sets

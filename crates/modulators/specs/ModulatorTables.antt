@@ -11,16 +11,16 @@ use Rattle.tables.specs.declared.Room.{Room}
 use Rattle.tables.specs.declared.Room.the-variants as room
 use Rattle.tables.specs.declared.Found.{Found}
 use Rattle.tables.specs.declared.Found.the-variants as found
-use Rattle.times.specs.Answer.{Answer, accepted, refused}
-use Rattle.times.specs.Judge.{floatFaults, firstFault}
-use Rattle.times.specs.declared.judge.Faults.{Faults}
-use Rattle.tweens.specs.Waves.{waveFaults}
-use Rattle.tweens.specs.declared.tween.Tween.{Tween}
-use Rattle.tweens.specs.declared.value.FloatValue.{FloatValue}
-use Rattle.tweens.specs.declared.value.ModulatorId.{ModulatorId}
-use Rattle.tweens.specs.declared.waveform.Waveform.{Waveform}
-use Rattle.parameters.specs.FloatParameters.{changeOf}
-use Rattle.parameters.specs.declared.float_parameter.FloatSet.{FloatSet}
+use Rattle.judge.specs.Answer.{Answer, accepted, refused}
+use Rattle.judge.specs.Judge.{floatFaults, firstFault}
+use Rattle.judge.specs.declared.Faults.{Faults}
+use Rattle.waveform.specs.Waves.{waveFaults}
+use Rattle.tween.specs.declared.Tween.{Tween}
+use Rattle.value.specs.declared.FloatValue.{FloatValue}
+use Rattle.value.specs.declared.ModulatorId.{ModulatorId}
+use Rattle.waveform.specs.declared.Waveform.{Waveform}
+use Rattle.float_parameter.specs.FloatParameters.{changeOf}
+use Rattle.float_parameter.specs.declared.FloatSet.{FloatSet}
 use Rattle.modulator.specs.Tweeners.{newTweener, setTweenerOf, tweenerFaults}
 use Rattle.modulator.specs.Lfos.{builderFaults, newLfo, parameterOf, withParameterOf, withWaveOf, withPhaseOf}
 use Rattle.modulator.specs.declared.tweener.Tweener.{Tweener}

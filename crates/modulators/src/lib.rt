@@ -1,7 +1,15 @@
 // The table of modulators, and the calls on it: by an id, or adding one. A slot holds one of two kinds.
 ghost use mathlib.Core.Path.{_≡_};
-ghost use Rattle.times.specs.Answer.{toldFloat};
-ghost use Rattle.modulators.specs.ModulatorTables.{valueOf, noModulators, putOf, addTweenerOf, addLfoOf, removeOf, setTweenerAt, setParameterOf, setWaveformOf, setPhaseOf, modulatorValueOf};
+ghost use Prim.Native.Nat.{_<_};
+ghost use Rattle.judge.specs.Answer.{toldFloat};
+ghost use Rattle.modulators.specs.Entries.{keyedAt, storedAt, modulatorAt, putJudged, settledAt};
+ghost use Rattle.modulators.specs.Sets.{isLfo, refusalOf, tweenerBy, parameterBy, lfoBy, modulatorBy, setBy};
+ghost use Rattle.modulators.specs.ModulatorTables.{valueOf, noModulators, whereIs, addTweenerOf, addLfoOf, removeOf, setTweenerAt, setParameterOf, setWaveformOf, setPhaseOf, modulatorValueOf};
+use float_parameter::change_float;
+use judge::Floated;
+use judge::both;
+use judge::first_fault;
+use judge::float_faults;
 use modulator::lfo::Lfo;
 use modulator::lfo::LfoBuilder;
 use modulator::lfo::LfoParameter;
@@ -15,7 +23,6 @@ use modulator::tweener::Tweener;
 use modulator::tweener::new_tweener;
 use modulator::tweener::tweener_faults;
 use modulator::tweener::tweener_to;
-use parameters::float_parameter::change_float;
 use tables::Found;
 use tables::Key;
 use tables::NO_ROOM;
@@ -23,14 +30,13 @@ use tables::NO_SUCH;
 use tables::Room;
 use tables::find;
 use tables::free;
-use times::judge::Floated;
-use times::judge::first_fault;
-use times::judge::float_faults;
-use tweens::tween::Tween;
-use tweens::value::FloatValue;
-use tweens::value::ModulatorId;
-use tweens::waveform::Waveform;
-use tweens::waveform::wave_faults;
+use tween::Tween;
+use tween::tween_faults;
+use value::FloatValue;
+use value::ModulatorId;
+use value::float_value_faults;
+use waveform::Waveform;
+use waveform::wave_faults;
 
 pub enum Modulator {
     OfTweener(Tweener),
@@ -63,6 +69,14 @@ pub struct ModulatorAdded {
     pub table: Modulators,
 }
 
+// What a set asks of one modulator. The first is for a tweener and the others are for an LFO.
+enum Asked {
+    Target(f64, Tween),
+    Parameter(LfoParameter, FloatValue, Tween),
+    Wave(Waveform),
+    Phase(f64),
+}
+
 // A modulator's present value.
 pub fn value(m: Modulator) -> f64
     ensures { λ r. ⌜ r ≡ valueOf m ⌝ }
@@ -89,10 +103,49 @@ pub fn no_modulators() -> Modulators
     }
 }
 
-// Puts a modulator into the lowest free slot.
-fn put(t: Modulators, m: Modulator) -> ModulatorAdded
-    ensures { λ r. ⌜ r ≡ putOf t m ⌝ }
+fn keyed(t: Modulators, i: usize, key: Key) -> Modulators
+    requires { ⌜ i < 16 ⌝ }
+    ensures { λ r. ⌜ r ≡ keyedAt t i key ⌝ }
 {
+    let mut table = t;
+    table.keys[i] = key;
+    table
+}
+
+fn stored(t: Modulators, i: usize, m: Modulator) -> Modulators
+    requires { ⌜ i < 16 ⌝ }
+    ensures { λ r. ⌜ r ≡ storedAt t i m ⌝ }
+{
+    let mut table = t;
+    table.slots[i] = Slot { modulator: m };
+    table
+}
+
+fn place(t: Modulators, id: ModulatorId) -> Found
+    ensures { λ r. ⌜ r ≡ whereIs t id ⌝ }
+{
+    let keys = t.keys;
+    find(keys, id.slot, id.generation)
+}
+
+fn read(t: Modulators, i: usize) -> Modulator
+    requires { ⌜ i < 16 ⌝ }
+    ensures { λ r. ⌜ r ≡ modulatorAt t i ⌝ }
+{
+    let s = t.slots[i];
+    s.modulator
+}
+
+// Puts a modulator into the lowest free slot, unless n refuses it.
+fn put(t: Modulators, n: u32, m: Modulator) -> ModulatorAdded
+    ensures { λ r. ⌜ r ≡ putJudged t n m ⌝ }
+{
+    if n != 0 {
+        return ModulatorAdded {
+            answer: ModulatorNamed::Refused(n),
+            table: t,
+        };
+    }
     let keys = t.keys;
     let Room::At(i, generation) = free(keys) else {
         return ModulatorAdded {
@@ -100,19 +153,17 @@ fn put(t: Modulators, m: Modulator) -> ModulatorAdded
             table: t,
         };
     };
-    let mut table = t;
-    table.keys[i] = Key {
+    let key = Key {
         used: true,
         generation,
     };
-    table.slots[i] = Slot { modulator: m };
     let id = ModulatorId {
         slot: i as u32,
         generation,
     };
     ModulatorAdded {
         answer: ModulatorNamed::Is(id),
-        table,
+        table: stored(keyed(t, i, key), i, m),
     }
 }
 
@@ -120,76 +171,153 @@ pub fn add_tweener(t: Modulators, value: f64) -> ModulatorAdded
     ensures { λ r. ⌜ r ≡ addTweenerOf t value ⌝ }
 {
     let n = first_fault(float_faults(value));
-    if n != 0 {
-        return ModulatorAdded {
-            answer: ModulatorNamed::Refused(n),
-            table: t,
-        };
-    }
-    put(t, Modulator::OfTweener(new_tweener(value)))
+    put(t, n, Modulator::OfTweener(new_tweener(value)))
 }
 
 pub fn add_lfo(t: Modulators, b: LfoBuilder) -> ModulatorAdded
     ensures { λ r. ⌜ r ≡ addLfoOf t b ⌝ }
 {
     let n = first_fault(builder_faults(b));
-    if n != 0 {
-        return ModulatorAdded {
-            answer: ModulatorNamed::Refused(n),
-            table: t,
-        };
-    }
-    put(t, Modulator::OfLfo(new_lfo(b)))
+    put(t, n, Modulator::OfLfo(new_lfo(b)))
 }
 
 pub fn remove_modulator(t: Modulators, id: ModulatorId) -> ModulatorDone
     ensures { λ r. ⌜ r ≡ removeOf t id ⌝ }
 {
-    let keys = t.keys;
-    let Found::At(i) = find(keys, id.slot, id.generation) else {
+    let Found::At(i) = place(t, id) else {
         return ModulatorDone {
             refused: NO_SUCH,
             table: t,
         };
     };
-    let mut table = t;
-    table.keys[i] = Key {
+    let key = Key {
         used: false,
         generation: id.generation,
     };
-    ModulatorDone { refused: 0, table }
+    ModulatorDone {
+        refused: 0,
+        table: keyed(t, i, key),
+    }
 }
 
-pub fn set_tweener(t: Modulators, id: ModulatorId, target: f64, tween: Tween) -> ModulatorDone
-    ensures { λ r. ⌜ r ≡ setTweenerAt t id target tween ⌝ }
+// The modulator of slot i anew, unless n refuses the call.
+fn settled(t: Modulators, i: usize, n: u32, m: Modulator) -> ModulatorDone
+    requires { ⌜ i < 16 ⌝ }
+    ensures { λ r. ⌜ r ≡ settledAt t i n m ⌝ }
 {
-    let keys = t.keys;
-    let Found::At(i) = find(keys, id.slot, id.generation) else {
-        return ModulatorDone {
-            refused: NO_SUCH,
-            table: t,
-        };
-    };
-    let s = t.slots[i];
-    let m = s.modulator;
-    let Modulator::OfTweener(old) = m else {
-        return ModulatorDone {
-            refused: NO_SUCH,
-            table: t,
-        };
-    };
-    let n = first_fault(tweener_faults(target, tween));
     if n != 0 {
         return ModulatorDone {
             refused: n,
             table: t,
         };
     }
-    let mut table = t;
-    table.slots[i] = Slot {
-        modulator: Modulator::OfTweener(tweener_to(old, target, tween)),
+    ModulatorDone {
+        refused: 0,
+        table: stored(t, i, m),
+    }
+}
+
+fn is_lfo(m: Modulator) -> bool
+    ensures { λ r. ⌜ r ≡ isLfo m ⌝ }
+{
+    match m {
+        Modulator::OfTweener(_) => false,
+        Modulator::OfLfo(_) => true,
+    }
+}
+
+// NO_SUCH where the modulator is of the other kind than is asked, and n where it is not.
+fn refusal(lfo: bool, asked: Asked, n: u32) -> u32
+    ensures { λ r. ⌜ r ≡ refusalOf lfo asked n ⌝ }
+{
+    match asked {
+        Asked::Target(_, _) => {
+            if lfo {
+                return NO_SUCH;
+            }
+            n
+        }
+        Asked::Parameter(_, _, _) => {
+            if lfo {
+                return n;
+            }
+            NO_SUCH
+        }
+        Asked::Wave(_) => {
+            if lfo {
+                return n;
+            }
+            NO_SUCH
+        }
+        Asked::Phase(_) => {
+            if lfo {
+                return n;
+            }
+            NO_SUCH
+        }
+    }
+}
+
+// A tweener as it is asked for. What is for an LFO leaves it.
+fn tweener_by(w: Tweener, asked: Asked) -> Tweener
+    ensures { λ r. ⌜ r ≡ tweenerBy w asked ⌝ }
+{
+    match asked {
+        Asked::Target(target, tween) => tweener_to(w, target, tween),
+        Asked::Parameter(_, _, _) => w,
+        Asked::Wave(_) => w,
+        Asked::Phase(_) => w,
+    }
+}
+
+fn parameter_by(l: Lfo, which: LfoParameter, target: FloatValue, tween: Tween) -> Lfo
+    ensures { λ r. ⌜ r ≡ parameterBy l which target tween ⌝ }
+{
+    let set = change_float(lfo_parameter(l, which), target, tween);
+    let p = set.parameter;
+    with_parameter(l, which, p)
+}
+
+// An LFO as it is asked for. What is for a tweener leaves it.
+fn lfo_by(l: Lfo, asked: Asked) -> Lfo
+    ensures { λ r. ⌜ r ≡ lfoBy l asked ⌝ }
+{
+    match asked {
+        Asked::Target(_, _) => l,
+        Asked::Parameter(which, target, tween) => parameter_by(l, which, target, tween),
+        Asked::Wave(waveform) => with_waveform(l, waveform),
+        Asked::Phase(radians) => with_phase(l, radians),
+    }
+}
+
+fn modulator_by(m: Modulator, asked: Asked) -> Modulator
+    ensures { λ r. ⌜ r ≡ modulatorBy m asked ⌝ }
+{
+    match m {
+        Modulator::OfTweener(w) => Modulator::OfTweener(tweener_by(w, asked)),
+        Modulator::OfLfo(l) => Modulator::OfLfo(lfo_by(l, asked)),
+    }
+}
+
+// A set, where n is the number of its first fault.
+fn set(t: Modulators, id: ModulatorId, asked: Asked, n: u32) -> ModulatorDone
+    ensures { λ r. ⌜ r ≡ setBy t id asked n ⌝ }
+{
+    let Found::At(i) = place(t, id) else {
+        return ModulatorDone {
+            refused: NO_SUCH,
+            table: t,
+        };
     };
-    ModulatorDone { refused: 0, table }
+    let m = read(t, i);
+    settled(t, i, refusal(is_lfo(m), asked, n), modulator_by(m, asked))
+}
+
+pub fn set_tweener(t: Modulators, id: ModulatorId, target: f64, tween: Tween) -> ModulatorDone
+    ensures { λ r. ⌜ r ≡ setTweenerAt t id target tween ⌝ }
+{
+    let n = first_fault(tweener_faults(target, tween));
+    set(t, id, Asked::Target(target, tween), n)
 }
 
 // Sets an LFO's frequency, amplitude or offset.
@@ -202,108 +330,29 @@ pub fn set_parameter(
 ) -> ModulatorDone
     ensures { λ r. ⌜ r ≡ setParameterOf t id which target tween ⌝ }
 {
-    let keys = t.keys;
-    let Found::At(i) = find(keys, id.slot, id.generation) else {
-        return ModulatorDone {
-            refused: NO_SUCH,
-            table: t,
-        };
-    };
-    let s = t.slots[i];
-    let m = s.modulator;
-    let Modulator::OfLfo(old) = m else {
-        return ModulatorDone {
-            refused: NO_SUCH,
-            table: t,
-        };
-    };
-    let set = change_float(lfo_parameter(old, which), target, tween);
-    if set.refused != 0 {
-        return ModulatorDone {
-            refused: set.refused,
-            table: t,
-        };
-    }
-    let p = set.parameter;
-    let mut table = t;
-    table.slots[i] = Slot {
-        modulator: Modulator::OfLfo(with_parameter(old, which, p)),
-    };
-    ModulatorDone { refused: 0, table }
+    let n = first_fault(both(float_value_faults(target), tween_faults(tween)));
+    set(t, id, Asked::Parameter(which, target, tween), n)
 }
 
 pub fn set_waveform(t: Modulators, id: ModulatorId, waveform: Waveform) -> ModulatorDone
     ensures { λ r. ⌜ r ≡ setWaveformOf t id waveform ⌝ }
 {
-    let keys = t.keys;
-    let Found::At(i) = find(keys, id.slot, id.generation) else {
-        return ModulatorDone {
-            refused: NO_SUCH,
-            table: t,
-        };
-    };
-    let s = t.slots[i];
-    let m = s.modulator;
-    let Modulator::OfLfo(old) = m else {
-        return ModulatorDone {
-            refused: NO_SUCH,
-            table: t,
-        };
-    };
     let n = first_fault(wave_faults(waveform));
-    if n != 0 {
-        return ModulatorDone {
-            refused: n,
-            table: t,
-        };
-    }
-    let mut table = t;
-    table.slots[i] = Slot {
-        modulator: Modulator::OfLfo(with_waveform(old, waveform)),
-    };
-    ModulatorDone { refused: 0, table }
+    set(t, id, Asked::Wave(waveform), n)
 }
 
 pub fn set_phase(t: Modulators, id: ModulatorId, radians: f64) -> ModulatorDone
     ensures { λ r. ⌜ r ≡ setPhaseOf t id radians ⌝ }
 {
-    let keys = t.keys;
-    let Found::At(i) = find(keys, id.slot, id.generation) else {
-        return ModulatorDone {
-            refused: NO_SUCH,
-            table: t,
-        };
-    };
-    let s = t.slots[i];
-    let m = s.modulator;
-    let Modulator::OfLfo(old) = m else {
-        return ModulatorDone {
-            refused: NO_SUCH,
-            table: t,
-        };
-    };
     let n = first_fault(float_faults(radians));
-    if n != 0 {
-        return ModulatorDone {
-            refused: n,
-            table: t,
-        };
-    }
-    let mut table = t;
-    table.slots[i] = Slot {
-        modulator: Modulator::OfLfo(with_phase(old, radians)),
-    };
-    ModulatorDone { refused: 0, table }
+    set(t, id, Asked::Phase(radians), n)
 }
 
 pub fn modulator_value(t: Modulators, id: ModulatorId) -> Floated
     ensures { λ r. ⌜ toldFloat r ≡ modulatorValueOf t id ⌝ }
 {
-    let keys = t.keys;
-    let Found::At(i) = find(keys, id.slot, id.generation) else {
+    let Found::At(i) = place(t, id) else {
         return Floated::Refused(NO_SUCH);
     };
-    let s = t.slots[i];
-    let m = s.modulator;
-    Floated::Is(value(m))
+    Floated::Is(value(read(t, i)))
 }

@@ -3,7 +3,7 @@ ghost use mathlib.Core.Path.{_≡_};
 ghost use mathlib.Core.List.{map};
 ghost use Rattle.digits.specs.Puts.{place, putAll, lineOf};
 ghost use Rattle.replies.specs.Replies.{okText, idReply, clockText, modulatorText, tickText, frameText, shownOf, reportedText};
-use clocks::clock::Reported;
+use clock::Reported;
 use commands::clock_command::ClockAnswer;
 use commands::modulator_command::ModulatorAnswer;
 use report::Filled;

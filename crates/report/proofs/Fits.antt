@@ -13,11 +13,11 @@ use Rattle.digits.specs.Puts.{Put, place, putAll, whole}
 use Rattle.digits.proofs.Room.{room}
 use Rattle.digits.proofs.Pieces.{whole-fits}
 use Rattle.tables.proofs.Places.{found-slot}
-use Rattle.times.specs.declared.time.ClockId.{ClockId}
-use Rattle.clocks.specs.OneClock.{positionOf, freshOf}
+use Rattle.time.specs.declared.ClockId.{ClockId}
+use Rattle.clock.specs.OneClock.{positionOf, freshOf}
 use Rattle.clocks.specs.ClockTables.{whereIs, readFound}
-use Rattle.clocks.specs.declared.clock.Clock.{Clock}
-use Rattle.clocks.specs.declared.clocks.Clocks.{Clocks}
+use Rattle.clock.specs.declared.Clock.{Clock}
+use Rattle.clocks.specs.declared.Clocks.{Clocks}
 use Rattle.clocks.proofs.Slots.{Living, below, tells}
 use Rattle.report.specs.Reports.{reportLines, reportText, reported, intoBuffer}
 use Rattle.report.specs.declared.Filled.the-variants.{Written, Refused}

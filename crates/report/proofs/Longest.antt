@@ -9,12 +9,12 @@ use lib.ListN.{length, length-append}
 use Rattle.doubles.specs.Doubles.{zeroF, halfF}
 use Rattle.digits.specs.Digits.{placesFrom, numberText, hexText}
 use Rattle.digits.proofs.Lengths.{number-exact, number-length, hex-length, flag-length}
-use Rattle.times.specs.declared.clock_speed.ClockSpeed.the-variants.{TicksPerSecond}
-use Rattle.times.specs.declared.time.ClockId.{ClockId}
-use Rattle.tweens.specs.declared.value.SpeedValue.the-variants.{Fixed}
-use Rattle.clocks.specs.OneClock.{newClock, positionOf, freshOf}
-use Rattle.clocks.specs.declared.clock.Clock.{Clock}
-use Rattle.clocks.specs.declared.clock.ClockState.the-variants.{Started}
+use Rattle.clock_speed.specs.declared.ClockSpeed.the-variants.{TicksPerSecond}
+use Rattle.time.specs.declared.ClockId.{ClockId}
+use Rattle.value.specs.declared.SpeedValue.the-variants.{Fixed}
+use Rattle.clock.specs.OneClock.{newClock, positionOf, freshOf}
+use Rattle.clock.specs.declared.Clock.{Clock}
+use Rattle.clock.specs.declared.ClockState.the-variants.{Started}
 use Rattle.report.specs.Reports.{reportText}
 
 pub longest : (id : ClockId) (c : Clock) → id .slot < 16 → id .generation < 2 ^ 32 → positionOf (c .state) .ticks < 2 ^ 64 → length (reportText id c) ≤ 96

@@ -7,12 +7,12 @@ use lib.ListN.{length, drop}
 use Rattle.digits.specs.Digits.{numberText, flagText, floatText}
 use Rattle.digits.specs.Puts.{whole, lineEnd}
 use Rattle.ticks.specs.declared.Position.{Position}
-use Rattle.times.specs.Answer.{Answer, accepted, refused}
-use Rattle.times.specs.declared.time.ClockId.{ClockId}
-use Rattle.clocks.specs.OneClock.{positionOf, freshOf}
+use Rattle.judge.specs.Answer.{Answer, accepted, refused}
+use Rattle.time.specs.declared.ClockId.{ClockId}
+use Rattle.clock.specs.OneClock.{positionOf, freshOf}
 use Rattle.clocks.specs.ClockTables.{whereIs, readFound}
-use Rattle.clocks.specs.declared.clock.Clock.{Clock}
-use Rattle.clocks.specs.declared.clocks.Clocks.{Clocks}
+use Rattle.clock.specs.declared.Clock.{Clock}
+use Rattle.clocks.specs.declared.Clocks.{Clocks}
 use Rattle.report.specs.declared.Filled.{Filled}
 use Rattle.report.specs.declared.Filled.the-variants.{Written, Refused}
 

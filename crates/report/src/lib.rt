@@ -2,18 +2,18 @@
 // rows"). A refusal leaves the buffer as it was.
 ghost use mathlib.Core.Path.{_≡_};
 ghost use mathlib.Core.Bool.{not};
-ghost use Rattle.clocks.specs.OneClock.{freshOf};
+ghost use Rattle.clock.specs.OneClock.{freshOf};
 ghost use Rattle.digits.specs.Digits.{numberText, flagText, floatText};
 ghost use Rattle.digits.specs.Puts.{place, putAll};
 ghost use Rattle.report.specs.Reports.{field, reportLines, reportOf, reported};
-use clocks::clock::ClockState;
-use clocks::clock::position;
-use clocks::clocks::Clocks;
+use clock::ClockState;
+use clock::position;
+use clocks::Clocks;
 use tables::Found;
 use tables::NO_SUCH;
 use tables::find;
 use ticks::Position;
-use times::time::ClockId;
+use time::ClockId;
 
 pub const BUFFER: u32 = 11;
 

@@ -2,14 +2,15 @@
 use crate::made;
 use crate::told::Seen;
 use crate::told::Told;
+use crate::told::mixed;
 use crate::told::tell;
-use clocks::clocks::Clocks;
+use clocks::Clocks;
+use frame::frame;
 use info::parameter::update_float_in;
 use modulators::Modulators;
 use modulators::no_modulators;
-use station::frame::frame;
-use station::station::Station;
-use station::station::info_of;
+use station::Station;
+use station::info_of;
 
 // The seconds of a frame, and of an update.
 const DT: f64 = 0.001953125;
@@ -33,7 +34,7 @@ fn framed(t: Clocks, m: Modulators, dt: f64, count: u64) -> Seen {
     while left > 0 {
         let done = frame(now, dt);
         let report = done.reports[5];
-        reported = reported ^ report.tick;
+        reported = mixed(reported, report.tick);
         now = done.station;
         left -= 1;
     }

@@ -1,32 +1,32 @@
 // What the cases run on: 16 clocks and 16 modulators, 8 tweeners under way and 8 LFOs. oracle/src/speed.rs makes the
 // same of the original's types, so that both give the same answers.
-use clocks::clock::Clock;
-use clocks::clock::new_clock;
-use clocks::clock::with_ticking;
-use clocks::clocks::Clocks;
-use clocks::clocks::set_speed;
+use clock::Clock;
+use clock::new_clock;
+use clock::with_ticking;
+use clock_speed::ClockSpeed;
+use clocks::Clocks;
+use clocks::set_speed;
+use float_parameter::FloatParameter;
+use float_parameter::change_float;
+use float_parameter::new_float;
 use modulator::lfo::Lfo;
 use modulator::tweener::new_tweener;
 use modulator::tweener::tweener_to;
 use modulators::Modulator;
 use modulators::Modulators;
 use modulators::Slot;
-use parameters::float_parameter::FloatParameter;
-use parameters::float_parameter::change_float;
-use parameters::float_parameter::new_float;
+use start_time::StartTime;
 use tables::Key;
-use times::clock_speed::ClockSpeed;
-use times::start_time::StartTime;
-use times::time::ClockId;
-use times::time::ClockTime;
-use tweens::tween::Easing;
-use tweens::tween::Tween;
-use tweens::value::FloatMapping;
-use tweens::value::FloatValue;
-use tweens::value::ModulatorId;
-use tweens::value::SpeedMapping;
-use tweens::value::SpeedValue;
-use tweens::waveform::Waveform;
+use time::ClockId;
+use time::ClockTime;
+use tween::Easing;
+use tween::Tween;
+use value::FloatMapping;
+use value::FloatValue;
+use value::ModulatorId;
+use value::SpeedMapping;
+use value::SpeedValue;
+use waveform::Waveform;
 
 fn clock_id(slot: u32) -> ClockId {
     ClockId {

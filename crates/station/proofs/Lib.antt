@@ -1,6 +1,3 @@
--- Laws that the crates above cite: `Seen` on what each turn of a frame sees, `Outcomes` on the statements themselves. `Filled` has what the loops that fill an array share, `ModulatorTurns` and `ClockTurns` what the frame's two loops keep.
-mod ClockTurns
-mod Filled
-mod ModulatorTurns
+-- Laws that the crates above cite: `Filled` on what the loops that fill an array share, `Outcomes` on the statements themselves.
+pub mod Filled
 pub mod Outcomes
-pub mod Seen

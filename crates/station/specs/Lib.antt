@@ -1,3 +1,1 @@
-pub mod Frames
 pub mod Stations
-pub mod Turns

@@ -2,11 +2,11 @@
 use mathlib.Core.List.{map}
 use lib.Ieee.{Float}
 use Rattle.info.specs.declared.info.Info.{Info}
-use Rattle.clocks.specs.OneClock.{infoOf}
+use Rattle.clock.specs.OneClock.{infoOf}
 use Rattle.clocks.specs.ClockTables.{noClocks}
 use Rattle.modulators.specs.ModulatorTables.{valueOf, noModulators}
 use Rattle.modulators.specs.declared.Slot.{Slot}
-use Rattle.station.specs.declared.station.Station.{Station}
+use Rattle.station.specs.declared.Station.{Station}
 
 abbrev pub freshStation : Station
 freshStation = record { clocks = noClocks; modulators = noModulators }

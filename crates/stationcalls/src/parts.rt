@@ -1,13 +1,13 @@
 // Which part of the station a call is for, by its name.
-use clockcalls::names::begins;
+use heard::begins;
 use text::Word;
 
 pub enum Part {
     Frame,
     Clocks,
+    ModulatorKeys,
     Modulators,
     Both,
-    None,
 }
 
 fn of_modulators(line: &[u8], name: Word) -> bool {
@@ -20,19 +20,6 @@ fn of_modulators(line: &[u8], name: Word) -> bool {
     begins(line, name, b"mod.")
 }
 
-fn of_both(line: &[u8], name: Word) -> bool {
-    if grammar::is(line, name, b"when") {
-        return true;
-    }
-    if grammar::is(line, name, b"val.raw") {
-        return true;
-    }
-    if grammar::is(line, name, b"sval.raw") {
-        return true;
-    }
-    grammar::is(line, name, b"start.up")
-}
-
 pub fn part_of(line: &[u8], name: Word) -> Part {
     if grammar::is(line, name, b"frame") {
         return Part::Frame;
@@ -40,11 +27,11 @@ pub fn part_of(line: &[u8], name: Word) -> Part {
     if begins(line, name, b"clock.") {
         return Part::Clocks;
     }
+    if grammar::is(line, name, b"mod.gen") {
+        return Part::ModulatorKeys;
+    }
     if of_modulators(line, name) {
         return Part::Modulators;
     }
-    if of_both(line, name) {
-        return Part::Both;
-    }
-    Part::None
+    Part::Both
 }

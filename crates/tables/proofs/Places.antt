@@ -2,7 +2,7 @@
 use Prim.Native.Nat.{ℕ, zero, suc, _+_, _<_, _≤_}
 use native.Mathlib.Nat.{not-suc-le-zero, le-of-suc-le-suc}
 use native.Mathlib.Omega.{arith}
-use mathlib.Core.Path.{_≡_, refl, ap}
+use mathlib.Core.Path.{_≡_, refl, sym, ap}
 use mathlib.Core.Bool.{Bool, true, false, not, _&&_, cond, false≢true}
 use mathlib.Core.List.{List, [], _∷_}
 use lib.ListN.{length, getD, set, replicate}
@@ -173,3 +173,12 @@ unfolding freeOf readAt
 none-free [] n e j = refl
 none-free (k ∷ ks) n e zero = none-step k ks n (isFree k) refl e .0
 none-free (k ∷ ks) n e (suc j) = none-free ks (n + 1) (none-step k ks n (isFree k) refl e .1) j
+
+-- a slot that is found by 16 keys is one of the 16 entries beside them
+module _ (ks : List Key) (slot g i : ℕ) (n : length ks ≡ 16) (e : findOf ks slot g ≡ found.At i) where
+  pub found-below : i < 16
+  found-below = omega (arith, found-inside _ _ _ _ e)
+
+  -- what the code reads beside the keys is what stands in the slot
+  pub found-read : {A B : Type 0} (none : B) (f : A → B) (l : List A) (d : A) → length l ≡ 16 → f (getD l i d) ≡ readAt none f l i
+  found-read none f l d m = sym (read-at none f l i d (omega (arith, found-below)))

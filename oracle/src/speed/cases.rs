@@ -6,7 +6,7 @@ use crate::clock::Clock;
 
 use super::{
     made,
-    station::{SLOTS, Station, Told},
+    station::{SLOTS, Station, Told, mixed},
 };
 
 /// The seconds of a frame, and of an update.
@@ -23,7 +23,7 @@ fn playing() -> Station {
 fn framed(mut station: Station, dt: f64, count: u64) -> Told {
     let mut reported = 0;
     for _ in 0..count {
-        reported ^= station.frame(dt).unwrap_or(0);
+        reported = mixed(reported, station.frame(dt).unwrap_or(0));
     }
     station.tell(reported)
 }

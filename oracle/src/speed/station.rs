@@ -13,13 +13,18 @@ use crate::{
 
 pub(super) const SLOTS: usize = 16;
 
-/// Each number is the exclusive or over all slots; `reported` is over the ticks that one clock reported.
+/// Each number is mixed of all slots; `reported` of the ticks that one clock reported.
 #[derive(Default)]
 pub(super) struct Told {
     pub(super) reported: u64,
     pub(super) ticks: u64,
     pub(super) fractions: u64,
     pub(super) values: u64,
+}
+
+/// One number more, mixed into those before it. Their order counts, so that equal slots do not cancel.
+pub(super) fn mixed(sum: u64, x: u64) -> u64 {
+    sum.rotate_left(1) ^ x
 }
 
 impl fmt::Display for Told {
@@ -109,18 +114,19 @@ impl Station {
         };
         for key in &self.clock_keys {
             let clock = self.clocks.get(*key).expect("it lives");
-            if let State::Started {
-                ticks,
-                fractional_position,
-            } = clock.state()
-            {
-                told.ticks ^= ticks;
-                told.fractions ^= fractional_position.to_bits();
-            }
+            let (ticks, fraction) = match clock.state() {
+                State::NotStarted => (0, 0.0),
+                State::Started {
+                    ticks,
+                    fractional_position,
+                } => (ticks, fractional_position),
+            };
+            told.ticks = mixed(told.ticks, ticks);
+            told.fractions = mixed(told.fractions, f64::to_bits(fraction));
         }
         for key in &self.modulator_keys {
             let modulator = self.modulators.get(*key).expect("it lives");
-            told.values ^= modulator.value().to_bits();
+            told.values = mixed(told.values, modulator.value().to_bits());
         }
         told
     }

@@ -1,38 +1,34 @@
--- `remove_modulator` meets its contract: it leaves the slot that `find` gives. Assumes nothing.
+-- `remove_modulator` meets its contract: it leaves the slot that `place` gives. Assumes nothing.
 use borrow.Author.Needs.{needs}
-use native.Mathlib.Omega.{arith}
 use mathlib.Core.Path.{sym, _∙_}
 use Rattle.tables.proofs.Places.{read-at}
-use Rattle.modulators.specs.ModulatorTables.{slotOf, removeOf}
-use Rattle.modulators.proofs.Lookups.{Lookup, looked}
 use Rattle.doubles.specs.Doubles.{zeroF}
 use Rattle.modulator.specs.Tweeners.{newTweener}
+use Rattle.modulators.specs.ModulatorTables.{slotOf, removeOf}
 use Rattle.modulators.specs.declared.Modulator.the-variants.{OfTweener}
+use Rattle.modulators.proofs.Lookups.{Lookup, looked}
 use Rattle.modulators.proofs.remove_modulator.Statement.{statement}
 use Rattle.modulators.proofs.remove_modulator.Tie as tie
 
 abbrev start : tie.After-i → tie.Start
-start c = c .before .before .before .before
+start c = c .before .before .before
 
 lookup : (c : tie.After-i) → Lookup (start c .args .t) (start c .args .id) (c .i .given .0 .0)
-lookup c = looked (start c .args .t) (start c .good .0) _ _ (c .before .before .find .ensures) (c .i .given .1)
+lookup c = looked (start c .args .t) (start c .good .0) _ _ (c .before .before .place .ensures) (c .i .given .1)
 
 returns : tie.Need-returns
 unfolding removeOf
-returns c = rw (sym (c .before .before .find .ensures) ∙ c .enum-told .given .1)
+returns c = rw (sym (c .before .before .place .ensures) ∙ c .enum-told .given .1)
 
-mul-t8 : tie.Need-mul-t8
-mul-t8 c = omega (arith, lookup (c .before) .below)
-
-element-set-from-table : tie.Need-element-set-from-table
-element-set-from-table c = lookup (c .before) .below
+keyed-requires : tie.Need-keyed-requires
+keyed-requires c κs = lookup (c .before) .below
 
 -- the code does not read the entry, so that any default serves
 returns-2 : tie.Need-returns-2
 unfolding removeOf
 returns-2 c =
-    let l = lookup (c .before) in
-    rw (l .is, read-at _ _ _ _ (slotOf (OfTweener (newTweener zeroF))) (l .inside))
+    let l = lookup (c .before .before) in
+    rw (l .is, read-at _ _ _ _ (slotOf (OfTweener (newTweener zeroF))) (l .inside), c .keyed .ensures)
 
 pub remove-modulator-spec : {M : Type 1} → statement M
-remove-modulator-spec = tie.close (tie.spec (λ _ _. tt) (λ c. search needs) (λ c. search needs) returns mul-t8 element-set-from-table returns-2)
+remove-modulator-spec = tie.close (tie.spec (λ _ _. tt) (λ c. search needs) (λ c. search needs) returns keyed-requires returns-2)

@@ -6,9 +6,10 @@ use mathlib.Core.Path.{_≡_, sym, _∙_}
 use lib.Ieee.{Float}
 use Rattle.tables.specs.Keys.{findOf}
 use Rattle.tables.specs.declared.Found.the-variants as found
-use Rattle.tweens.specs.declared.value.Input.the-variants as input
+use Rattle.value.specs.declared.Input.the-variants as input
 use Rattle.info.specs.Infos.{modulatorValueOf}
-use Rattle.info.proofs.Lengths.{Sixteen, sixteen, found-below, found-read}
+use Rattle.tables.proofs.Places.{found-below, found-read}
+use Rattle.info.proofs.Lengths.{Sixteen, sixteen}
 use Rattle.info.proofs.info.modulator_value.Statement.{statement}
 use Rattle.info.proofs.info.modulator_value.Tie as tie
 
@@ -18,12 +19,11 @@ start c = c .before .before .before .before .before
 abbrev at : tie.After-known-told → ℕ
 at c = c .before .i .given .0 .0
 
--- `t1` is the argument `info`
-is-found : (c : tie.After-known-told) → findOf (start c .args .t1 .«modulator_keys») (start c .args .id .slot) (start c .args .id .generation) ≡ found.At (at c)
+is-found : (c : tie.After-known-told) → findOf (start c .args .info .«modulator_keys») (start c .args .id .slot) (start c .args .id .generation) ≡ found.At (at c)
 is-found c = sym (c .before .before .before .find .ensures) ∙ c .before .i .given .1
 
-lengths : (c : tie.After-known-told) → Sixteen (start c .args .t1)
-lengths c = sixteen (start c .args .t1) _ (start c .good .0)
+lengths : (c : tie.After-known-told) → Sixteen (start c .args .info)
+lengths c = sixteen (start c .args .info) _ (start c .good .0)
 
 below : (c : tie.After-known-told) → at c < 16
 below c = found-below _ _ _ _ (lengths c .modulator-keys) (is-found c)
@@ -33,7 +33,7 @@ unfolding modulatorValueOf
 returns c = rw (sym (c .before .before .find .ensures) ∙ c .enum-told .given .1)
 
 mul-t7 : tie.Need-mul-t7
-mul-t7 c = omega (arith, below c)
+mul-t7 c = omega (arith, below (c .before))
 
 returns-2 : tie.Need-returns-2
 unfolding modulatorValueOf
@@ -44,4 +44,4 @@ returns-2 c =
 pub modulator-value-spec : {M : Type 1} → statement M
 modulator-value-spec =
     tie.close
-    (tie.spec (λ _ _. tt) (λ c. search needs) (λ c. search needs) returns mul-t7 below returns-2)
+    (tie.spec (λ _ _. tt) (λ c. search needs) (λ c. search needs) returns mul-t7 (λ c. below (c .before)) returns-2)

@@ -1,8 +1,8 @@
 -- `read_float` meets its contract: it answers the number of the value's first fault, or what `raw_float` reads by what the modulator shows. Assumes nothing.
 use mathlib.Core.Path.{ap, _∙_}
-use Rattle.times.proofs.Judged.{refuses, gives}
-use Rattle.tweens.specs.Values.{rawFloatOf}
-use Rattle.tweens.specs.declared.value.Input.{Input}
+use Rattle.judge.proofs.Judged.{refuses, gives}
+use Rattle.value.specs.Values.{rawFloatOf}
+use Rattle.value.specs.declared.Input.{Input}
 use Rattle.info.specs.Infos.{rawFloatIn}
 use Rattle.info.proofs.info.read_float.Statement.{statement}
 use Rattle.info.proofs.info.read_float.Tie as tie

@@ -1,8 +1,8 @@
 -- `read_speed` meets its contract: it answers the number of the value's first fault, or what `raw_speed` reads by what the modulator shows. Assumes nothing.
 use mathlib.Core.Path.{ap, _∙_}
-use Rattle.times.proofs.Judged.{refuses, gives}
-use Rattle.tweens.specs.Values.{rawSpeedOf}
-use Rattle.tweens.specs.declared.value.Input.{Input}
+use Rattle.judge.proofs.Judged.{refuses, gives}
+use Rattle.value.specs.Values.{rawSpeedOf}
+use Rattle.value.specs.declared.Input.{Input}
 use Rattle.info.specs.Infos.{rawSpeedIn}
 use Rattle.info.proofs.info.read_speed.Statement.{statement}
 use Rattle.info.proofs.info.read_speed.Tie as tie

@@ -1,5 +1,5 @@
 -- `when` meets its contract: it answers the number of the fraction's fault, or what `when_to_start` gives. Assumes nothing.
-use Rattle.times.proofs.Judged.{refuses, gives}
+use Rattle.judge.proofs.Judged.{refuses, gives}
 use Rattle.info.specs.Infos.{whenOf}
 use Rattle.info.proofs.info.when.Statement.{statement}
 use Rattle.info.proofs.info.when.Tie as tie

@@ -1,5 +1,5 @@
 -- `tweener_faults` meets its contract: it joins the faults of the target and of the tween. Assumes nothing.
-use Rattle.times.proofs.Judged.{joined}
+use Rattle.judge.proofs.Judged.{joined}
 use Rattle.modulator.proofs.tweener.tweener_faults.Statement.{statement}
 use Rattle.modulator.proofs.tweener.tweener_faults.Tie as tie
 

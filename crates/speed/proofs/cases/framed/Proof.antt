@@ -42,6 +42,7 @@ framed-spec =
     loop-holds
     frame-requires
     element-copy-out-report
+    (λ c κs. search needs)
     sub-left
     loop-less
     loop-again

@@ -52,10 +52,13 @@ tell-spec =
     loop-holds
     mul-c
     element-copy-out-c
+    (λ c κs. search needs)
     bits-requires
+    (λ c κs. search needs)
     mul-bits
     element-copy-out-bits
     bits-requires-2
+    (λ c κs. search needs)
     add-i
     loop-less
     loop-again

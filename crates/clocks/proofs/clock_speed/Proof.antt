@@ -1,0 +1,35 @@
+-- `clock_speed` meets its contract: the clock that it tells of is the one in the slot found. Assumes nothing.
+use borrow.Author.Needs.{needs}
+use native.Mathlib.Omega.{arith}
+use mathlib.Core.Path.{sym, _∙_}
+use Rattle.clocks.specs.ClockTables.{clockSpeedOf}
+use Rattle.clock.specs.declared.Clock.{Clock}
+use Rattle.clocks.proofs.Slots.{Living, living, below, tells}
+use Rattle.clocks.proofs.clock_speed.Statement.{statement}
+use Rattle.clocks.proofs.clock_speed.Tie as tie
+
+abbrev start : tie.After-known-told → tie.Start
+start c = c .before .before .before .before .before
+
+lives : (c : tie.After-known-told) → Living (start c .args .t1) (start c .args .id) (c .before .i .given .0 .0)
+lives c = living (start c .good .0) (c .before .before .before .find .ensures) (c .before .i .given .1)
+
+returns : tie.Need-returns
+unfolding clockSpeedOf
+returns c = rw (sym (c .before .before .find .ensures) ∙ c .enum-told .given .1)
+
+returns-2 : tie.Need-returns-2
+unfolding clockSpeedOf
+returns-2 c = tells (lives (c .before .before)) (λ (e : Clock). e .speed .raw) _
+
+pub clock-speed-spec : {M : Type 1} → statement M
+clock-speed-spec =
+    tie.close
+    (tie.spec
+    (λ _ _. tt)
+    (λ c. search needs)
+    (λ c. search needs)
+    returns
+    (λ c. omega (arith, below (lives c)))
+    (λ c. below (lives c))
+    returns-2)

@@ -1,0 +1,56 @@
+-- What a set makes of one modulator, and the four sets as one. Assumes nothing.
+use Prim.Native.Nat.{ℕ}
+use mathlib.Core.Bool.{Bool, true, false, cond}
+use Rattle.tween.specs.declared.Tween.{Tween}
+use Rattle.value.specs.declared.FloatValue.{FloatValue}
+use Rattle.value.specs.declared.ModulatorId.{ModulatorId}
+use Rattle.float_parameter.specs.FloatParameters.{changeOf}
+use Rattle.modulator.specs.Tweeners.{setTweenerOf}
+use Rattle.modulator.specs.Lfos.{parameterOf, withParameterOf, withWaveOf, withPhaseOf}
+use Rattle.modulator.specs.declared.tweener.Tweener.{Tweener}
+use Rattle.modulator.specs.declared.lfo.Lfo.{Lfo}
+use Rattle.modulator.specs.declared.lfo.LfoParameter.{LfoParameter}
+use Rattle.modulators.specs.ModulatorTables.{whereIs, onFound}
+use Rattle.modulators.specs.Entries.{settledAt}
+use Rattle.modulators.specs.declared.Modulator.{Modulator}
+use Rattle.modulators.specs.declared.Modulator.the-variants.{OfTweener, OfLfo}
+use Rattle.modulators.specs.declared.Modulators.{Modulators}
+use Rattle.modulators.specs.declared.ModulatorDone.{ModulatorDone}
+use Rattle.modulators.specs.declared.Asked.{Asked}
+use Rattle.modulators.specs.declared.Asked.the-variants as asked
+
+abbrev pub isLfo : Modulator → Bool
+isLfo (OfTweener w) = false
+isLfo (OfLfo l) = true
+
+-- NO_SUCH: "or a modulator of the other kind than the call acts on"; or else n
+abbrev pub refusalOf : Bool → Asked → ℕ → ℕ
+refusalOf lfo (asked.Target x w) n = cond lfo 7 n
+refusalOf lfo (asked.Parameter k v w) n = cond lfo n 7
+refusalOf lfo (asked.Wave w) n = cond lfo n 7
+refusalOf lfo (asked.Phase x) n = cond lfo n 7
+
+-- what is for an LFO leaves a tweener
+abbrev pub tweenerBy : Tweener → Asked → Tweener
+tweenerBy t (asked.Target x w) = setTweenerOf x w t
+tweenerBy t (asked.Parameter k v w) = t
+tweenerBy t (asked.Wave w) = t
+tweenerBy t (asked.Phase x) = t
+
+abbrev pub parameterBy : Lfo → LfoParameter → FloatValue → Tween → Lfo
+parameterBy l k v w = withParameterOf k (changeOf (parameterOf l k) v w .parameter) l
+
+-- what is for a tweener leaves an LFO
+abbrev pub lfoBy : Lfo → Asked → Lfo
+lfoBy l (asked.Target x w) = l
+lfoBy l (asked.Parameter k v w) = parameterBy l k v w
+lfoBy l (asked.Wave w) = withWaveOf w l
+lfoBy l (asked.Phase x) = withPhaseOf x l
+
+abbrev pub modulatorBy : Modulator → Asked → Modulator
+modulatorBy (OfTweener w) a = OfTweener (tweenerBy w a)
+modulatorBy (OfLfo l) a = OfLfo (lfoBy l a)
+
+-- a set with the number n of its first fault
+unfoldable pub setBy : Modulators → ModulatorId → Asked → ℕ → ModulatorDone
+setBy t id a n = onFound t (whereIs t id) (λ i m. settledAt t i (refusalOf (isLfo m) a n) (modulatorBy m a))

@@ -1,0 +1,42 @@
+-- Adding an amount with a minus sign is subtracting its opposite, which has none, and the reverse: the definitions say so, and the measure falls. Assumes nothing.
+use mathlib.Core.Path.{_≡_, refl}
+use Prim.Native.Nat.{ℕ, _<_}
+use mathlib.Core.Bool.{true, false, cond, false≢true}
+use lib.Dec.{lit≤}
+use lib.Ieee.{Float, nan, inf, fin, neg}
+use Rattle.doubles.specs.Doubles.{signOf}
+use Rattle.time.specs.declared.ClockTime.{ClockTime}
+use Rattle.time.specs.Times.{laterOf, earlierOf, addFloatOf, subFloatOf}
+
+-- the measure: 1 at a minus sign, and else 0
+abbrev pub steps : Float → ℕ
+steps x = cond (signOf x) 1 0
+
+-- the opposite of an amount with a minus sign has none
+pub no-sign : (x : Float) → signOf x ≡ true → signOf (neg x) ≡ false
+unfolding neg
+no-sign nan h = refl
+no-sign (inf true) h = refl
+no-sign (inf false) h = absurd (false≢true h)
+no-sign (fin true m e) h = refl
+no-sign (fin false m e) h = absurd (false≢true h)
+
+pub steps-fall : (x : Float) → signOf x ≡ true → steps (neg x) < steps x
+steps-fall x h = rw (no-sign x h, h) (lit≤ tt)
+
+module _ (t : ClockTime) (x : Float) where
+  pub add-opposite : signOf x ≡ true → subFloatOf t (neg x) ≡ addFloatOf t x
+  unfolding addFloatOf subFloatOf
+  add-opposite h = rw (no-sign x h, h)
+
+  pub sub-opposite : signOf x ≡ true → addFloatOf t (neg x) ≡ subFloatOf t x
+  unfolding addFloatOf subFloatOf
+  sub-opposite h = rw (no-sign x h, h)
+
+  pub add-plain : signOf x ≡ false → laterOf t x ≡ addFloatOf t x
+  unfolding addFloatOf
+  add-plain h = rw h
+
+  pub sub-plain : signOf x ≡ false → earlierOf t x ≡ subFloatOf t x
+  unfolding subFloatOf
+  sub-plain h = rw h

@@ -1,3 +1,0 @@
-pub mod Easings
-pub mod Values
-pub mod Waves
