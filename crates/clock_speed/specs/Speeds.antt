@@ -1,7 +1,7 @@
 -- Document 01, "Speeds". Assumes nothing.
 use mathlib.Core.Bool.{Bool, false, not, _&&_, _||_}
 use lib.IntN.{pos, negsuc}
-use lib.Ieee.{Float, fin, binary64, add, sub, mul, div, lt, le, eq}
+use lib.Ieee.{Float, fin, binary64, mul, div, lt, le, eq}
 use Rattle.doubles.specs.Doubles.{finiteOf, zeroF, oneF}
 use Rattle.tweenable.specs.Tweenables.{interpolateOf}
 use Rattle.judge.specs.Answer.{Answer, accepted, refused}

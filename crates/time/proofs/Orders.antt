@@ -1,11 +1,11 @@
 -- What `orderOf` says of two times. Assumes nothing.
 use mathlib.Core.Path.{_≡_, refl, ap, _∙_}
-use Prim.Native.Nat.{ℕ, _*_, _<_, compare, Ordering, Ordering·lt, Ordering·eq, Ordering·gt}
+use Prim.Native.Nat.{ℕ, _*_, compare}
 use native.Mathlib.Omega.{arith}
-use mathlib.Core.Bool.{Bool, true, false, _&&_, cond, true≢false, false≢true}
-use lib.Dec.{eqb, isLe, isEq}
+use mathlib.Core.Bool.{Bool, true, false, _&&_, cond, true≢false}
+use lib.Dec.{eqb}
 use lib.Ieee.{Float, nan, inf, fin, up, down, below, level, lt, eq, isNan}
-use borrow.Author.Tests.{le-ltb, le-leb, lt-leb, eq-eqb, ne-eqb, eqb-true}
+use borrow.Author.Tests.{le-ltb, eq-eqb, eqb-true}
 use Rattle.duration.proofs.Compares.{compare-eq}
 use Rattle.time.specs.declared.ClockId.{ClockId}
 use Rattle.time.specs.declared.ClockTime.{ClockTime}
