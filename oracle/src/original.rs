@@ -26,3 +26,15 @@ pub(crate) use parameter::Parameter;
 pub(crate) use start_time::StartTime;
 pub(crate) use tween::{Easing, Tween, Tweenable};
 pub(crate) use value::Value;
+
+/// A clock's ticks and fraction, 0 and 0.0 where it has not started.
+#[allow(dead_code)]
+pub(crate) fn position(clock: &clock::Clock) -> (u64, f64) {
+    match clock.state() {
+        clock::State::NotStarted => (0, 0.0),
+        clock::State::Started {
+            ticks,
+            fractional_position,
+        } => (ticks, fractional_position),
+    }
+}

@@ -179,12 +179,6 @@ pub(super) fn judge_advance(clock: &Clock, advance: impl FnOnce(&Clock) -> f64) 
     if !clock.ticking() {
         return Faults::NONE;
     }
-    let (ticks, fraction) = match clock.state() {
-        State::NotStarted => (0, 0.0),
-        State::Started {
-            ticks,
-            fractional_position,
-        } => (ticks, fractional_position),
-    };
+    let (ticks, fraction) = crate::position(clock);
     judge::advance(ticks, fraction, advance(clock))
 }

@@ -5,7 +5,7 @@ use std::{fmt, mem};
 use atomic_arena::{Arena, Key};
 
 use crate::{
-    clock::{Clock, State},
+    clock::Clock,
     info::Info,
     listener::Listener,
     modulator::Modulator,
@@ -114,13 +114,7 @@ impl Station {
         };
         for key in &self.clock_keys {
             let clock = self.clocks.get(*key).expect("it lives");
-            let (ticks, fraction) = match clock.state() {
-                State::NotStarted => (0, 0.0),
-                State::Started {
-                    ticks,
-                    fractional_position,
-                } => (ticks, fractional_position),
-            };
+            let (ticks, fraction) = crate::position(clock);
             told.ticks = mixed(told.ticks, ticks);
             told.fractions = mixed(told.fractions, f64::to_bits(fraction));
         }
