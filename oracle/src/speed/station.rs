@@ -4,12 +4,7 @@ use std::{fmt, mem};
 
 use atomic_arena::{Arena, Key};
 
-use crate::{
-    clock::Clock,
-    info::Info,
-    listener::Listener,
-    modulator::Modulator,
-};
+use crate::{clock::Clock, info::Info, listener::Listener, modulator::Modulator};
 
 pub(super) const SLOTS: usize = 16;
 
