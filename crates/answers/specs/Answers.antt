@@ -1,21 +1,21 @@
--- Answers as BENCH.md writes them: the pieces of each text. Assumes nothing.
+-- Answers as docs/BENCH.md writes them: the pieces of each text. Assumes nothing.
 use Prim.Native.Nat.{ℕ}
 use mathlib.Core.List.{List, [], _∷_, _++_}
 use Rattle.digits.specs.Digits.{numberText, floatText}
-use Rattle.clock_speed.specs.declared.ClockSpeed.{ClockSpeed}
-use Rattle.clock_speed.specs.declared.ClockSpeed.the-variants.{SecondsPerTick, TicksPerSecond, TicksPerMinute}
-use Rattle.clock_speed.specs.declared.Speeded.{Speeded}
-use Rattle.clock_speed.specs.declared.Speeded.the-variants as speeded
+use Rattle.values.specs.declared.clock_speed.ClockSpeed.{ClockSpeed}
+use Rattle.values.specs.declared.clock_speed.ClockSpeed.the-variants.{SecondsPerTick, TicksPerSecond, TicksPerMinute}
+use Rattle.values.specs.declared.clock_speed.Speeded.{Speeded}
+use Rattle.values.specs.declared.clock_speed.Speeded.the-variants as speeded
 use Rattle.judge.specs.declared.Floated.{Floated}
 use Rattle.judge.specs.declared.Floated.the-variants as floated
-use Rattle.start_time.specs.declared.StartTime.{StartTime}
-use Rattle.start_time.specs.declared.StartTime.the-variants.{Immediate, Delayed, At}
-use Rattle.time.specs.declared.ClockTime.{ClockTime}
-use Rattle.tween.specs.declared.Easing.{Easing}
-use Rattle.tween.specs.declared.Easing.the-variants.{Linear, InPowi, OutPowi, InOutPowi}
-use Rattle.value.specs.declared.FloatMapping.{FloatMapping}
-use Rattle.value.specs.declared.FloatValue.{FloatValue}
-use Rattle.value.specs.declared.FloatValue.the-variants.{Fixed, FromModulator}
+use Rattle.times.specs.declared.start_time.StartTime.{StartTime}
+use Rattle.times.specs.declared.start_time.StartTime.the-variants.{Immediate, Delayed, At}
+use Rattle.times.specs.declared.time.ClockTime.{ClockTime}
+use Rattle.times.specs.declared.tween.Easing.{Easing}
+use Rattle.times.specs.declared.tween.Easing.the-variants.{Linear, InPowi, OutPowi, InOutPowi}
+use Rattle.values.specs.declared.value.FloatMapping.{FloatMapping}
+use Rattle.values.specs.declared.value.FloatValue.{FloatValue}
+use Rattle.values.specs.declared.value.FloatValue.the-variants.{Fixed, FromModulator}
 
 -- ---- words: each with the blank that parts it from what follows, if something does
 

@@ -5,8 +5,6 @@
 ghost use mathlib.Core.Path.{_≡_};
 ghost use Rattle.answers.specs.Answers.{speedText, easeText, timeText, idText, startText, floatMapText, floatValueText, refusedText, floatedText, speededText};
 ghost use Rattle.digits.specs.Puts.{place, putAll, lineOf};
-use clock_speed::ClockSpeed;
-use clock_speed::Speeded;
 use digits::counted;
 use digits::end;
 use digits::float;
@@ -14,11 +12,13 @@ use digits::named;
 use digits::number;
 use digits::put;
 use judge::Floated;
-use start_time::StartTime;
-use time::ClockTime;
-use tween::Easing;
-use value::FloatMapping;
-use value::FloatValue;
+use times::start_time::StartTime;
+use times::time::ClockTime;
+use times::tween::Easing;
+use values::clock_speed::ClockSpeed;
+use values::clock_speed::Speeded;
+use values::value::FloatMapping;
+use values::value::FloatValue;
 
 pub fn speed(out: &mut [u8], at: usize, s: ClockSpeed) -> usize
     ensures { λ r. ⌜ place (now (out .exit)) r ≡ putAll (place (now (out .entry)) at) (speedText s) ⌝ }

@@ -1,16 +1,17 @@
 // One line's answer. Each family of calls answers its own lines and leaves the others; what is asked of
 // the state comes last.
+use crate::families::instants;
+use crate::families::mappings;
+use crate::heard::Heard;
+use crate::heard::Part;
+use crate::heard::asks;
+use crate::heard::silent;
+use crate::state;
+use crate::stationcalls::StationActed;
 use calls::curves;
 use calls::floats;
 use calls::speeds;
-use families::instants;
-use families::mappings;
-use heard::Heard;
-use heard::Part;
-use heard::asks;
-use heard::silent;
 use info::info::Info;
-use stationcalls::StationActed;
 use text::Word;
 
 // The answer to a line that is no call, and whether it was written.

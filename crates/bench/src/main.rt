@@ -2,19 +2,26 @@
 // docs/BENCH.md has the calls. Input has no cap: it is taken in portions, and what has been read is
 // answered before more is read.
 mod answer;
+mod clockcalls;
+mod families;
+mod heard;
+mod holds;
+mod modulatorcalls;
+mod state;
+mod stationcalls;
 
 ghost use Prim.Native.Nat.{_<_};
 ghost use lib.ListN.{length};
 use crate::answer::answered;
 use crate::answer::seen;
-use heard::Heard;
-use heard::silent;
-use holds::floats::no_floats;
-use holds::speeds::no_speeds;
-use state::floats_after;
-use state::speeds_after;
-use stationcalls::after::begun;
-use stationcalls::after::station_after;
+use crate::heard::Heard;
+use crate::heard::silent;
+use crate::holds::floats::no_floats;
+use crate::holds::speeds::no_speeds;
+use crate::state::floats_after;
+use crate::state::speeds_after;
+use crate::stationcalls::after::begun;
+use crate::stationcalls::after::station_after;
 use text::Word;
 
 // The longest line, its LF not counted, and a count that stands for a longer one.

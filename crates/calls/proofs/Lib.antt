@@ -1,3 +1,4 @@
--- Laws that the functions' proofs cite: `Replies` on what an answer of document 01 puts, `Outcomes` on the statements themselves.
+-- Laws that the functions' proofs cite: `Replies` on what an entry's answer puts, `Outcomes` on the statements
+-- themselves.
 pub mod Replies
 pub mod Outcomes

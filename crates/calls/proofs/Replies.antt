@@ -1,16 +1,16 @@
--- What carries an answer of document 01 into its text: a callee's result is known by its answer alone. Assumes nothing.
+-- What carries an entry's answer into its text: a callee's result is known by its answer alone. Assumes nothing.
 use Prim.Native.Nat.{ℕ}
 use mathlib.Core.Path.{_≡_, refl, sym, ap, _∙_}
 use mathlib.Core.List.{List, _∷_}
 use lib.Ieee.{Float}
 use Rattle.judge.specs.Answer.{Answer, toldFloat}
-use Rattle.clock_speed.specs.Speeds.{toldSpeed}
-use Rattle.clock_speed.specs.declared.ClockSpeed.{ClockSpeed}
-use Rattle.clock_speed.specs.declared.Speeded.{Speeded}
-use Rattle.clock_speed.specs.declared.Speeded.the-variants as speeded
+use Rattle.values.specs.Speeds.{toldSpeed}
+use Rattle.values.specs.declared.clock_speed.ClockSpeed.{ClockSpeed}
+use Rattle.values.specs.declared.clock_speed.Speeded.{Speeded}
+use Rattle.values.specs.declared.clock_speed.Speeded.the-variants as speeded
 use Rattle.judge.specs.declared.Floated.{Floated}
 use Rattle.judge.specs.declared.Floated.the-variants as floated
-use Rattle.tween.specs.declared.Tween.{Tween}
+use Rattle.times.specs.declared.tween.Tween.{Tween}
 use Rattle.answers.specs.Answers.{blank, startText, easeText, floatedText, speededText}
 use Rattle.digits.specs.Digits.{numberText}
 use Rattle.digits.specs.Puts.{Put, putOf, putAll, lineEnd, lineOf}

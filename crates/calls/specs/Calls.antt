@@ -1,4 +1,5 @@
--- Three families of the calls of docs/BENCH.md: what a line is answered, as the pieces of the answer's text, and no piece where the line is no call of the family. A line is the list of its bytes. Assumes nothing.
+-- Three families of the calls of docs/BENCH.md: what a line is answered, as the pieces of the answer's text, and no
+-- piece where the line is no call of the family. A line is the list of its bytes. Assumes nothing.
 use Prim.Native.Nat.{ℕ}
 use mathlib.Core.Bool.{cond}
 use mathlib.Core.List.{List, [], _∷_, _++_}
@@ -6,13 +7,13 @@ use lib.Ieee.{Float}
 use Rattle.doubles.specs.Doubles.{wholeOf, fractOf, ceilOf, absOf, clampOf}
 use Rattle.text.specs.declared.Word.{Word}
 use Rattle.judge.specs.Answer.{Answer, accepted, refused}
-use Rattle.duration.specs.Durations.{secsOf}
-use Rattle.clock_speed.specs.Speeds.{asSptOf, asTpsOf, asTpmOf, lerpSpeedOf}
-use Rattle.tweenable.specs.Tweenables.{lerpOf}
-use Rattle.clock_speed.specs.declared.ClockSpeed.{ClockSpeed}
-use Rattle.tween.specs.Easings.{easeOf, defaultTween}
-use Rattle.waveform.specs.Waves.{waveOf}
-use Rattle.tween.specs.declared.Tween.{Tween}
+use Rattle.times.specs.Durations.{trySecondsOf}
+use Rattle.values.specs.Speeds.{trySptOf, tryTpsOf, tryTpmOf, tryInterpolateSpeedOf}
+use Rattle.values.specs.Tweenables.{tryInterpolateOf}
+use Rattle.values.specs.declared.clock_speed.ClockSpeed.{ClockSpeed}
+use Rattle.times.specs.Easings.{tryApplyOf, defaultTween}
+use Rattle.waveform.specs.Waves.{tryWaveValueOf}
+use Rattle.times.specs.declared.tween.Tween.{Tween}
 use Rattle.waveform.specs.declared.Waveform.{Waveform}
 use Rattle.grammar.specs.Grammar.{named, endedAt, floatAt, numberAt, speedAt, easeAt, waveAt, withFloat, withNumber, withSpeed, withEase}
 use Rattle.grammar.specs.declared.WaveAt.{WaveAt}
@@ -79,7 +80,7 @@ abbrev pub «speedTps» : List ℕ
 abbrev pub «speedTpm» : List ℕ
 «speedTpm» = 0x73 ∷ 0x70 ∷ 0x65 ∷ 0x65 ∷ 0x64 ∷ 0x2e ∷ 0x74 ∷ 0x70 ∷ 0x6d ∷ []
 
--- ---- answers: "answers each with one line on standard output"; "A refused call is answered `refused N`, N being document 01's number"
+-- ---- answers: a line, or `refused N` with the refusal's number: docs/RULES.md, refusal-numbers
 
 -- "`F`"
 abbrev pub floatAnswerText : Answer Float → List (List ℕ)
@@ -135,7 +136,7 @@ unfoldable pub easeReply : List ℕ → ℕ → List (List ℕ)
 easeReply s at =
     withEase [] (easeAt s at) (λ e behind.
     withFloat [] (floatAt s behind) (λ x to.
-    whenEnded s to (floatAnswer (easeOf e x))))
+    whenEnded s to (floatAnswer (tryApplyOf e x))))
 
 -- "`lerp F F F`": "`F`"
 unfoldable pub lerpReply : List ℕ → ℕ → List (List ℕ)
@@ -143,20 +144,20 @@ lerpReply s at =
     withFloat [] (floatAt s at) (λ a toA.
     withFloat [] (floatAt s toA) (λ b toB.
     withFloat [] (floatAt s toB) (λ amount to.
-    whenEnded s to (floatAnswer (lerpOf a b amount)))))
+    whenEnded s to (floatAnswer (tryInterpolateOf a b amount)))))
 
 -- "`wave WAVE F`": "`F`"
 unfoldable pub waveReply : List ℕ → ℕ → List (List ℕ)
 waveReply s at =
     withWave (waveAt s at) (λ w behind.
     withFloat [] (floatAt s behind) (λ phase to.
-    whenEnded s to (floatAnswer (waveOf w phase))))
+    whenEnded s to (floatAnswer (tryWaveValueOf w phase))))
 
 -- "`dur.secs NS`": "`F`, the duration in seconds"
 unfoldable pub secsReply : List ℕ → ℕ → List (List ℕ)
 secsReply s at =
     withNumber [] (numberAt s at) (λ ns to.
-    whenEnded s to (floatAnswer (secsOf ns)))
+    whenEnded s to (floatAnswer (trySecondsOf ns)))
 
 -- "`tween.default`": "`TWEEN`"
 unfoldable pub defaultReply : List ℕ → ℕ → List (List ℕ)
@@ -177,7 +178,7 @@ unfoldable pub speedLerpReply : List ℕ → ℕ → ClockSpeed → List (List �
 speedLerpReply s at a =
     withSpeed [] (speedAt s at) (λ b behind.
     withFloat [] (floatAt s behind) (λ amount to.
-    whenEnded s to (speedAnswer (lerpSpeedOf a b amount))))
+    whenEnded s to (speedAnswer (tryInterpolateSpeedOf a b amount))))
 
 -- "`speed.spt SPEED` `speed.tps SPEED` `speed.tpm SPEED`": "`F`"
 unfoldable pub speedsOf : List ℕ → Word → List (List ℕ)
@@ -185,6 +186,6 @@ speedsOf s name =
     withSpeed [] (speedAt s (name .to)) (λ x to.
     cond (named s name «speedLerp») (speedLerpReply s to x)
     (whenEnded s to
-    (cond (named s name «speedSpt») (floatAnswer (asSptOf x))
-    (cond (named s name «speedTps») (floatAnswer (asTpsOf x))
-    (cond (named s name «speedTpm») (floatAnswer (asTpmOf x)) [])))))
+    (cond (named s name «speedSpt») (floatAnswer (trySptOf x))
+    (cond (named s name «speedTps») (floatAnswer (tryTpsOf x))
+    (cond (named s name «speedTpm») (floatAnswer (tryTpmOf x)) [])))))

@@ -7,7 +7,10 @@ use grammar::FloatAt;
 use grammar::NumberAt;
 use grammar::WaveAt;
 use text::Word;
-use tween::Tween;
+use times::duration;
+use times::tween;
+use times::tween::Tween;
+use values::tweenable;
 
 fn ease(line: &[u8], at: usize, out: &mut [u8]) -> usize
     ensures { λ r. ⌜ place (now (out .exit)) r ≡ putAll (place (now (out .entry)) 0) (easeReply (now (line .entry)) at) ⌝ }
@@ -21,7 +24,7 @@ fn ease(line: &[u8], at: usize, out: &mut [u8]) -> usize
     if !grammar::ended(line, to) {
         return 0;
     }
-    answers::floated(out, tween::ease(e, x))
+    answers::floated(out, tween::try_apply(e, x))
 }
 
 fn lerp(line: &[u8], at: usize, out: &mut [u8]) -> usize
@@ -39,7 +42,7 @@ fn lerp(line: &[u8], at: usize, out: &mut [u8]) -> usize
     if !grammar::ended(line, to) {
         return 0;
     }
-    answers::floated(out, tweenable::lerp(a, b, amount))
+    answers::floated(out, tweenable::try_interpolate(a, b, amount))
 }
 
 fn wave(line: &[u8], at: usize, out: &mut [u8]) -> usize
@@ -54,7 +57,7 @@ fn wave(line: &[u8], at: usize, out: &mut [u8]) -> usize
     if !grammar::ended(line, to) {
         return 0;
     }
-    answers::floated(out, waveform::wave(w, phase))
+    answers::floated(out, waveform::try_wave_value(w, phase))
 }
 
 fn secs(line: &[u8], at: usize, out: &mut [u8]) -> usize
@@ -66,7 +69,7 @@ fn secs(line: &[u8], at: usize, out: &mut [u8]) -> usize
     if !grammar::ended(line, to) {
         return 0;
     }
-    answers::floated(out, duration::secs(ns))
+    answers::floated(out, duration::try_as_secs_f64(ns))
 }
 
 // A whole answer: START NS EASE.

@@ -1,4 +1,6 @@
--- Any two outcomes that a statement allows coincide, for each public function of the crate: `One` of the crate `doubles` says it of the very clause that the check reads off the source. A clause says what the result is. Assumes nothing.
+-- Any two outcomes that a statement allows coincide, for each public function of the crate: `One` of the crate
+-- `doubles` says it of the very clause that the check reads off the source. A clause says what the result is. RULES,
+-- one-outcome. Assumes nothing.
 use Rattle.doubles.proofs.Outcomes.{One, equal}
 use Rattle.clock.proofs.new_clock.Reads as new-clock
 use Rattle.clock.proofs.new_clock.Kinds as new-clock-kinds

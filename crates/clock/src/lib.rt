@@ -1,18 +1,18 @@
 // One clock, as clock.rs has it.
 ghost use mathlib.Core.Path.{_≡_};
 ghost use Rattle.clock.specs.OneClock.{newClock, positionOf, infoOf, tickingOf, resetOf, spedOf, freshOf, noReport, reportOf, tickOf, updateClockOf};
-use clock_speed::ClockSpeed;
-use clock_speed::ticks_per_second;
 use judge::TICKS_FULL;
-use speed_parameter::SpeedParameter;
-use speed_parameter::new_speed;
-use speed_parameter::update_speed;
-use start_time::When;
+use parameter::speed::SpeedParameter;
+use parameter::speed::new_speed;
+use parameter::speed::update_speed;
 use ticks::Position;
 use ticks::Taken;
 use ticks::take_ticks;
-use value::Input;
-use value::SpeedValue;
+use times::start_time::When;
+use values::clock_speed::ClockSpeed;
+use values::clock_speed::as_ticks_per_second;
+use values::value::Input;
+use values::value::SpeedValue;
 
 pub const TOO_FAR: u32 = 9;
 
@@ -110,7 +110,7 @@ pub fn with_speed(c: Clock, speed: SpeedParameter) -> Clock
     }
 }
 
-// A reset keeps ticking and speed.
+// Back to not started, and nothing else: RULES, reset.
 pub fn reset(c: Clock) -> Clock
     ensures { λ r. ⌜ r ≡ resetOf c ⌝ }
 {
@@ -140,7 +140,7 @@ pub fn no_report() -> Reported
     }
 }
 
-// The tick reported is the count that is left in the state.
+// Nothing but the new state's own count is reported: RULES, tick-report.
 fn report(told: bool, ticks: u64) -> Reported
     ensures { λ r. ⌜ r ≡ reportOf told ticks ⌝ }
 {
@@ -155,7 +155,7 @@ fn tick(speed: SpeedParameter, state: ClockState, dt: f64) -> Moved
     ensures { λ r. ⌜ r ≡ tickOf speed state dt ⌝ }
 {
     let raw = speed.raw;
-    let advance = ticks_per_second(raw) * dt;
+    let advance = as_ticks_per_second(raw) * dt;
     if advance > 65536.0 {
         return Moved::Refused(TOO_FAR);
     }

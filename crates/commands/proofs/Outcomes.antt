@@ -1,4 +1,5 @@
--- Any two outcomes that a statement allows coincide, for each public function of the crate: `One` of the crate `doubles` says it of the very clause that the check reads off the source. Assumes nothing.
+-- Any two outcomes that a statement allows coincide, for each public function of the crate: `One` of the crate
+-- `doubles` says it of the very clause that the check reads off the source. RULES, one-outcome. Assumes nothing.
 use Rattle.doubles.proofs.Outcomes.{One, equal}
 use Rattle.commands.proofs.clock_command.run_clock.Reads as run-clock
 use Rattle.commands.proofs.clock_command.run_clock.Kinds as run-clock-kinds

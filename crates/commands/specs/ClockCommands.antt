@@ -1,15 +1,16 @@
--- The calls on the clocks as values: what each command answers, and what it leaves. Each is the call of its name. Assumes nothing.
-use mathlib.Core.Bool.{Bool, true, false, cond}
-use lib.Dec.{eqb}
+-- Document 01, "Frame (added)": the calls on the clocks as values. What each command answers, and what it leaves; each
+-- is the call of its name, and acts at once: RULES, commands. Assumes nothing.
+use mathlib.Core.Bool.{Bool, true, false}
 use Rattle.judge.specs.Answer.{Answer, accepted, refused}
-use Rattle.clock_speed.specs.declared.ClockSpeed.{ClockSpeed}
-use Rattle.time.specs.declared.ClockTime.{ClockTime}
-use Rattle.clocks.specs.ClockTables.{addClockOf, removeOf, tickOnOf, resetClockOf, setSpeedOf, clockTimeOf, clockTickingOf, clockSpeedOf}
-use Rattle.clocks.specs.declared.Clocks.{Clocks}
-use Rattle.clocks.specs.declared.ClockDone.{ClockDone}
-use Rattle.clocks.specs.declared.ClockAdded.{ClockAdded}
-use Rattle.clocks.specs.declared.ClockNamed.{ClockNamed}
-use Rattle.clocks.specs.declared.ClockNamed.the-variants as named
+use Rattle.judge.specs.Judge.{decided}
+use Rattle.values.specs.declared.clock_speed.ClockSpeed.{ClockSpeed}
+use Rattle.times.specs.declared.time.ClockTime.{ClockTime}
+use Rattle.clock_table.specs.ClockTables.{addClockOf, removeOf, tickOnOf, resetClockOf, setSpeedOf, clockTimeOf, clockTickingOf, clockSpeedOf}
+use Rattle.clock_table.specs.declared.Clocks.{Clocks}
+use Rattle.clock_table.specs.declared.ClockDone.{ClockDone}
+use Rattle.clock_table.specs.declared.ClockAdded.{ClockAdded}
+use Rattle.clock_table.specs.declared.ClockNamed.{ClockNamed}
+use Rattle.clock_table.specs.declared.ClockNamed.the-variants as named
 use Rattle.commands.specs.declared.clock_command.ClockCommand.{ClockCommand}
 use Rattle.commands.specs.declared.clock_command.ClockCommand.the-variants as command
 use Rattle.commands.specs.declared.clock_command.ClockAnswer.{ClockAnswer}
@@ -25,7 +26,7 @@ addedAs r = record { answer = namedAs (r .answer); table = r .table }
 
 -- 0 is OK
 abbrev pub doneAs : ClockDone → ClockRan
-doneAs r = record { answer = cond (eqb (r .refused) 0) answer.Done (answer.Refused (r .refused)); table = r .table }
+doneAs r = record { answer = decided (r .refused) answer.Done answer.Refused; table = r .table }
 
 abbrev pub timeAs : Answer ClockTime → ClockAnswer
 timeAs (accepted t) = answer.Time t

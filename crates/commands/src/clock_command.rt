@@ -1,30 +1,30 @@
 // The calls on the clocks as values.
 ghost use mathlib.Core.Path.{_≡_};
-ghost use Rattle.time.specs.Times.{toldTime};
-ghost use Rattle.clock_speed.specs.Speeds.{toldSpeed};
-ghost use Rattle.clocks.specs.ClockTables.{toldFlag};
+ghost use Rattle.times.specs.Times.{toldTime};
+ghost use Rattle.values.specs.Speeds.{toldSpeed};
+ghost use Rattle.clock_table.specs.ClockTables.{toldFlag};
 ghost use Rattle.commands.specs.ClockCommands.{addedAs, doneAs, timeAs, flagAs, speedAs, runClockOf};
-use clock_speed::ClockSpeed;
-use clock_speed::Speeded;
-use clocks::ClockAdded;
-use clocks::ClockDone;
-use clocks::ClockNamed;
-use clocks::Clocks;
-use clocks::Flagged;
-use clocks::add_clock;
-use clocks::clock_speed;
-use clocks::clock_ticking;
-use clocks::clock_time;
-use clocks::remove_clock;
-use clocks::reset_clock;
-use clocks::set_speed;
-use clocks::start_clock;
-use clocks::stop_clock;
-use time::ClockId;
-use time::ClockTime;
-use time::Timed;
-use tween::Tween;
-use value::SpeedValue;
+use clock_table::ClockAdded;
+use clock_table::ClockDone;
+use clock_table::ClockNamed;
+use clock_table::Clocks;
+use clock_table::Flagged;
+use clock_table::add_clock;
+use clock_table::clock_speed;
+use clock_table::clock_ticking;
+use clock_table::clock_time;
+use clock_table::remove_clock;
+use clock_table::reset_clock;
+use clock_table::set_clock_speed;
+use clock_table::start_clock;
+use clock_table::stop_clock;
+use times::time::ClockId;
+use times::time::ClockTime;
+use times::time::Timed;
+use times::tween::Tween;
+use values::clock_speed::ClockSpeed;
+use values::clock_speed::Speeded;
+use values::value::SpeedValue;
 
 pub enum ClockCommand {
     Add(SpeedValue),
@@ -116,7 +116,7 @@ pub fn run_clock(t: Clocks, c: ClockCommand) -> ClockRan
         ClockCommand::Start(id) => done(start_clock(t, id)),
         ClockCommand::Stop(id) => done(stop_clock(t, id)),
         ClockCommand::Reset(id) => done(reset_clock(t, id)),
-        ClockCommand::SetSpeed(id, v, w) => done(set_speed(t, id, v, w)),
+        ClockCommand::SetSpeed(id, v, w) => done(set_clock_speed(t, id, v, w)),
         ClockCommand::Time(id) => ClockRan {
             answer: time(clock_time(t, id)),
             table: t,

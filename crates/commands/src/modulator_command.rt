@@ -5,21 +5,21 @@ ghost use Rattle.commands.specs.ModulatorCommands.{addedAs, doneAs, valu
 use judge::Floated;
 use modulator::lfo::LfoBuilder;
 use modulator::lfo::LfoParameter;
-use modulators::ModulatorAdded;
-use modulators::ModulatorDone;
-use modulators::ModulatorNamed;
-use modulators::Modulators;
-use modulators::add_lfo;
-use modulators::add_tweener;
-use modulators::modulator_value;
-use modulators::remove_modulator;
-use modulators::set_parameter;
-use modulators::set_phase;
-use modulators::set_tweener;
-use modulators::set_waveform;
-use tween::Tween;
-use value::FloatValue;
-use value::ModulatorId;
+use modulator_table::ModulatorAdded;
+use modulator_table::ModulatorDone;
+use modulator_table::ModulatorNamed;
+use modulator_table::Modulators;
+use modulator_table::add_lfo;
+use modulator_table::add_tweener;
+use modulator_table::modulator_value;
+use modulator_table::remove_modulator;
+use modulator_table::set_parameter;
+use modulator_table::set_phase;
+use modulator_table::set_tweener;
+use modulator_table::set_waveform;
+use times::tween::Tween;
+use values::value::FloatValue;
+use values::value::ModulatorId;
 use waveform::Waveform;
 
 pub enum ModulatorCommand {

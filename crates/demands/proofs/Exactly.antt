@@ -1,43 +1,42 @@
--- Demand 1: the number that every call of `Entries` is given, and every judged call that is lent nothing, as the first of document 01's order whose condition holds; and the same read both ways. Assumes nothing.
-use Prim.Native.Nat.{ℕ, _+_, _-_, _^_, _<_}
+-- Demand 1: the number that every call of `Entries` is given, and every judged call that is lent nothing, as the first
+-- in the order whose condition holds; and the same read both ways. 01, "Refusal numbers". RULES, exact-refusals.
+-- Assumes nothing.
+use Prim.Native.Nat.{ℕ}
 use mathlib.Core.Path.{_≡_, refl, sym, _∙_}
 use mathlib.Core.Bool.{Bool, true, false, cond, false≢true}
 use mathlib.Core.Logic.{_↔_}
 use mathlib.Core.List.{List}
 use lib.ListN.{length}
 use lib.Dec.{eqb, ltb}
-use borrow.Author.Tests.{ltb-true, lt-ltb}
 use Rattle.judge.specs.Answer.{accepted, refused}
-use Rattle.judge.specs.Judge.{noFaults, bothFaults, badFraction, dtFaults, floatFaults, fractionFaults, firstFault, judged}
-use Rattle.clock_speed.specs.Speeds.{speedFaults}
-use Rattle.start_time.specs.Starts.{startFaults, startUpOf}
-use Rattle.time.specs.Times.{addTicksOf, subTicksOf}
+use Rattle.judge.specs.Judge.{noFaults, bothFaults, dtFaults, floatFaults, fractionFaults, firstFault, judged}
+use Rattle.values.specs.Speeds.{speedFaults}
+use Rattle.times.specs.Starts.{startFaults, tryUpdateOf}
 use Rattle.judge.specs.declared.Faults.{Faults}
-use Rattle.time.specs.declared.ClockId.{ClockId}
-use Rattle.time.specs.declared.ClockTime.{ClockTime}
-use Rattle.value.specs.Values.{floatValueFaults, speedValueFaults}
-use Rattle.float_parameter.specs.FloatParameters as floats
-use Rattle.speed_parameter.specs.SpeedParameters as speeds
-use Rattle.float_parameter.specs.declared.FloatAdvanced.{FloatAdvanced}
-use Rattle.float_parameter.specs.declared.FloatSet.{FloatSet}
-use Rattle.speed_parameter.specs.declared.SpeedAdvanced.{SpeedAdvanced}
-use Rattle.speed_parameter.specs.declared.SpeedSet.{SpeedSet}
-use Rattle.info.specs.Infos.{whenOf, rawFloatIn, rawSpeedIn}
-use Rattle.info.specs.ParametersIn.{updateFloatIn, updateSpeedIn}
-use Rattle.frame.specs.Frames.{frameOf}
+use Rattle.times.specs.declared.time.ClockId.{ClockId}
+use Rattle.values.specs.Values.{floatValueFaults, speedValueFaults}
+use Rattle.parameter.specs.FloatParameters as floats
+use Rattle.parameter.specs.SpeedParameters as speeds
+use Rattle.parameter.specs.declared.float.FloatAdvanced.{FloatAdvanced}
+use Rattle.parameter.specs.declared.float.FloatSet.{FloatSet}
+use Rattle.parameter.specs.declared.speed.SpeedAdvanced.{SpeedAdvanced}
+use Rattle.parameter.specs.declared.speed.SpeedSet.{SpeedSet}
+use Rattle.info.specs.Infos.{tryWhenToStartOf, tryRawFloatIn, tryRawSpeedIn}
+use Rattle.info.specs.ParametersIn.{tryUpdateFloatIn, tryUpdateSpeedIn}
+use Rattle.station.specs.Frames.{frameOf}
 use Rattle.station.specs.declared.Station.{Station}
 use Rattle.report.specs.Reports.{unchanged, atStart, reportText, reportOf}
 use Rattle.laws.specs.Calls.{Call, clock, modulator, frame, refusal, done, numberIn, numberOf}
 use Rattle.laws.specs.SoundStation.{All}
-use Rattle.laws.proofs.Entries.{names-read}
-use Rattle.demands.specs.Entries.{Lent, Tables, addTicks, subTicks, Entry, onStation, setFloat, setSpeed, updateFloat, updateSpeed, advanceFloat, advanceSpeed, report, when, readFloat, readSpeed, startIn, makeFloat, makeSpeed, shift, numberTold, numberGiven}
-use Rattle.demands.specs.Conditions.{Conditions, tooFarIn, ticksFullIn, inFrame, noClock, ofArguments, ofCall, ofReport, ofShift, conditionsOf}
-use Rattle.demands.specs.Order.{order, holds, firstIn, before, among, Decides}
-use Rattle.demands.proofs.Asked.{first-exactly, first-none, given-is, judged-number, id-given}
-use Rattle.demands.proofs.Lowest.{frame-number}
-use Rattle.demands.proofs.ByClock.{clock-case, clock-number}
-use Rattle.demands.proofs.ByModulator.{modulator-number}
-use Rattle.demands.proofs.ByTime.{shift-number}
+use Rattle.laws.proofs.lemmas.Entries.{names-read}
+use Rattle.demands.specs.Entries.{Lent, Tables, Entry, onStation, setFloat, setSpeed, updateFloat, updateSpeed, advanceFloat, advanceSpeed, report, when, readFloat, readSpeed, startIn, makeFloat, makeSpeed, shift, numberTold, numberGiven}
+use Rattle.demands.specs.Conditions.{Conditions, tooFarIn, ticksFullIn, inFrame, noClock, ofArguments, ofCall, ofReport, conditionsOf}
+use Rattle.demands.specs.Order.{order, holds, firstIn, among, Decides}
+use Rattle.demands.proofs.lemmas.Asked.{first-exactly, first-none, given-is, judged-number, id-given}
+use Rattle.demands.proofs.lemmas.Lowest.{frame-number}
+use Rattle.demands.proofs.lemmas.ByClock.{clock-case, clock-number}
+use Rattle.demands.proofs.lemmas.ByModulator.{modulator-number}
+use Rattle.demands.proofs.lemmas.ByTime.{shift-number}
 
 -- ---- the calls on the station
 
@@ -73,11 +72,16 @@ report-number st t id out =
 
 -- ---- every call
 
--- "Each is given exactly when its condition holds and nothing earlier in the order applies", as one equation: for every call of `Entries`, which says what it leaves out, on all that can be lent, valid or not. `Tables` asks only for what the arrays' lengths give.
--- It speaks of numbers alone, not of what an accepted call does. What it rests on: the conditions of 1 to 6 are the very definitions that the entries' statements use (`dtFaults`, `setFaults`, ..), so they are held to 01 by `limits` of `Limits`
--- and by reading. Those of 7 to 12 are written anew from 01 in `Conditions`, on what the definitions compute: whether an id lives; and in a frame what a clock sees in its turn, its speed, its advance, its sum and the whole ticks of it.
+-- The number as one equation: the first in the order whose condition holds, for every call of `Entries`, which says
+-- what it leaves out, on all that can be lent, valid or not: RULES, exact-refusals. `Tables` asks only for what the
+-- arrays' lengths give, so every station that a caller can hold meets it.
+-- It speaks of numbers alone, not of what an accepted call does. The conditions of 1 to 6 are the very definitions that
+-- the entries' statements use (`dtFaults`, `setFaults`, ..), so a definition that forgot an argument would meet it:
+-- `limits` of `Limits`, some 1,400 rows at the limits of each argument, rules that out. Those of 7 to 12 are written
+-- anew in `Conditions`, on what the definitions compute: whether an id lives; and in a frame what a clock sees in its
+-- turn, its speed, its advance, its sum and the whole ticks of it.
 pub number-given : (l : Lent) → Tables (l .station) → (e : Entry) → numberGiven l e ≡ firstIn order (holds (conditionsOf l e))
-unfolding floats.changeOf speeds.changeOf updateFloatIn updateSpeedIn floats.advanceOf speeds.advanceOf whenOf rawFloatIn rawSpeedIn startUpOf floats.makeOf speeds.makeOf
+unfolding floats.trySetOf speeds.trySetOf tryUpdateFloatIn tryUpdateSpeedIn floats.tryUpdateOf speeds.tryUpdateOf tryWhenToStartOf tryRawFloatIn tryRawSpeedIn tryUpdateOf floats.tryNewOf speeds.tryNewOf
 number-given l t (onStation c) = call-number (l .station) t c
 number-given l t (setFloat v w) = arguments-number (λ (r : FloatSet). r .refused) (floats.setFaults (l .float) v w) _ _ refl refl
 number-given l t (setSpeed v w) = arguments-number (λ (r : SpeedSet). r .refused) (speeds.setFaults (l .speed) v w) _ _ refl refl
@@ -111,42 +115,24 @@ module _ (c : Conditions) (m : ℕ) (e : m ≡ firstIn order (holds c)) where
   none-by-order = let r = first-none (holds c) order refl in (λ q. r .0 (sym e ∙ q), λ h. e ∙ r .1 h)
 
 module _ (l : Lent) (t : Tables (l .station)) (e : Entry) where
-  -- the same sentence, word by word, of each number of the order: given, if and only if its condition holds and none before it in the order does
+  -- the same, of each number of the order: given, if and only if its condition holds and none before it in the order
+  -- does: RULES, exact-refusals
   pub exactly : (n : ℕ) → among n order ≡ true → (numberGiven l e ≡ n) ↔ Decides (conditionsOf l e) n
   exactly = by-order (conditionsOf l e) (numberGiven l e) (number-given l t e)
 
-  -- and of 0, OK: accepted, if and only if no condition holds
+  -- and of 0, OK: accepted, if and only if no condition holds. This rules out a program that refuses too much: every
+  -- call, every frame, every set to seconds per tick
   pub accepted-exactly : (numberGiven l e ≡ 0) ↔ All (λ n. holds (conditionsOf l e) n ≡ false) order
   accepted-exactly = none-by-order (conditionsOf l e) (numberGiven l e) (number-given l t e)
 
 -- ---- the judged calls that are lent nothing
 
--- Any answer that is `judged` with some faults and is accepted where there is none: a number is given, if and only if its flag holds and none before it does, which leaves 1 to 6; and 0, if and only if no flag holds. Which faults a call is judged
--- with is its own definition's, held to 01 by `limits` of `Limits` and by reading
+-- Any answer that is `judged` with some faults and is accepted where there is none: a number is given, if and only if
+-- its flag holds and none before it does, which leaves 1 to 6; and 0, if and only if no flag holds. Which faults a call
+-- is judged with is its own definition's, held to RULES by `limits` of `Limits` and by reading.
 module _ {A : Type 0} (f : Faults) (x : A) where
   pub judged-exactly : (n : ℕ) → among n order ≡ true → (numberTold (judged f (accepted x)) ≡ n) ↔ Decides (ofArguments f) n
   judged-exactly = by-order (ofArguments f) (numberTold (judged f (accepted x))) (judged-given f x)
 
   pub judged-accepted : (numberTold (judged f (accepted x)) ≡ 0) ↔ All (λ n. holds (ofArguments f) n ≡ false) order
   judged-accepted = none-by-order (ofArguments f) (numberTold (judged f (accepted x))) (judged-given f x)
-
--- ---- a time that is moved by whole ticks, in plain words; by a double, `exactly` has it
-
-module _ (t : ClockTime) (n : ℕ) where
-  -- 10, "ticks would pass 2^64 − 1": given, if and only if the fraction is well and they would
-  pub full-exactly : (numberTold (addTicksOf t n) ≡ 10) ↔ ((badFraction (t .fraction) ≡ false) × (2 ^ 64 - 1 < t .ticks + n))
-  unfolding before among
-  full-exactly =
-      let r = by-order (ofShift t (addTicks n)) (numberTold (addTicksOf t n)) (shift-number t (addTicks n)) 10 refl in (
-        λ q. let d = r .0 q in (d .earlier .1 .1 .1 .1 .1 .1 .0, ltb-true (2 ^ 64 - 1) (t .ticks + n) (d .own)),
-        λ h. r .1 (record { own = lt-ltb (2 ^ 64 - 1) (t .ticks + n) (h .1); earlier = (refl, (refl, (refl, (refl, (refl, (refl, (h .0, (refl, (refl, tt))))))))) }),
-      )
-
-  -- 12, "whole ticks subtracted exceed the ticks held": given, if and only if the fraction is well and they do
-  pub before-zero-exactly : (numberTold (subTicksOf t n) ≡ 12) ↔ ((badFraction (t .fraction) ≡ false) × (t .ticks < n))
-  unfolding before among
-  before-zero-exactly =
-      let r = by-order (ofShift t (subTicks n)) (numberTold (subTicksOf t n)) (shift-number t (subTicks n)) 12 refl in (
-        λ q. let d = r .0 q in (d .earlier .1 .1 .1 .1 .1 .1 .0, ltb-true (t .ticks) n (d .own)),
-        λ h. r .1 (record { own = lt-ltb (t .ticks) n (h .1); earlier = (refl, (refl, (refl, (refl, (refl, (refl, (h .0, (refl, (refl, (refl, (refl, tt))))))))))) }),
-      )

@@ -1,4 +1,5 @@
--- An accepted add leaves a fresh clock (`add-fresh`), and it stays fresh through every call, frames too, that does not start or remove it (`fresh-kept`). Assumes nothing.
+-- An accepted add leaves a fresh clock (`add-fresh`), and it stays fresh through every call, frames too, that does not
+-- start or remove it (`fresh-kept`). RULES, run. Assumes nothing.
 use Prim.Native.Nat.{ℕ, _<_}
 use native.Mathlib.Decide.{ℕ-discrete}
 use native.Mathlib.Omega.{arith}
@@ -8,35 +9,36 @@ use mathlib.Core.List.{List, [], _∷_}
 use lib.ListN.{length}
 use lib.Dec.{eqb}
 use lib.Ieee.{Float}
-use Rattle.tables.specs.Keys.{freeOf}
-use Rattle.tables.specs.declared.Room.{Room}
-use Rattle.tables.specs.declared.Room.the-variants as room
-use Rattle.tables.proofs.Names.{add-lives}
-use Rattle.tables.proofs.Places.{read-set-same, room-inside}
+use Rattle.ids.specs.Keys.{freeOf}
+use Rattle.ids.specs.declared.Room.{Room}
+use Rattle.ids.specs.declared.Room.the-variants as room
+use Rattle.ids.proofs.Names.{add-lives}
+use Rattle.ids.proofs.Places.{read-set-same, room-inside}
 use Rattle.judge.specs.Answer.{accepted, refused}
 use Rattle.judge.specs.Judge.{firstFault}
-use Rattle.time.specs.declared.ClockId.{ClockId}
-use Rattle.value.specs.Values.{speedValueFaults}
-use Rattle.value.specs.declared.SpeedValue.{SpeedValue}
+use Rattle.times.specs.declared.time.ClockId.{ClockId}
+use Rattle.values.specs.Values.{speedValueFaults}
+use Rattle.values.specs.declared.value.SpeedValue.{SpeedValue}
 use Rattle.clock.specs.OneClock.{newClock}
-use Rattle.clocks.specs.ClockTables.{addAt, refusedAdd, addClockOf}
+use Rattle.ids.specs.Tables.{refusedAdd, addedIn}
+use Rattle.clock_table.specs.ClockTables.{clockTable, addClockOf}
 use Rattle.clock.specs.declared.Clock.{Clock}
 use Rattle.clock.specs.declared.ClockState.the-variants.{NotStarted}
-use Rattle.clocks.specs.declared.Clocks.{Clocks}
+use Rattle.clock_table.specs.declared.Clocks.{Clocks}
 use Rattle.commands.specs.ClockCommands.{addedAs, runClockOf}
 use Rattle.commands.specs.declared.clock_command.ClockCommand.{ClockCommand}
 use Rattle.commands.specs.declared.clock_command.ClockCommand.the-variants as command
-use Rattle.frame.specs.Frames.{frameOf}
+use Rattle.station.specs.Frames.{frameOf}
 use Rattle.station.specs.Stations.{freshStation}
 use Rattle.station.specs.declared.Station.{Station}
 use Rattle.laws.specs.Calls.{Call, clock, modulator, frame, after, afterAll, ofClock, named, clockTold, told}
 use Rattle.laws.specs.SoundStation.{All}
-use Rattle.laws.proofs.Entries.{Names, names-read}
-use Rattle.laws.proofs.OneClock.{Makes, leaves, starts, stops, resets, speeds, command-makes}
-use Rattle.laws.proofs.OneTurn.{frame-turns, frame-refused}
-use Rattle.laws.proofs.Sizes.{Sixteen, reached-sixteen}
+use Rattle.laws.proofs.lemmas.Entries.{Names, names-read}
+use Rattle.laws.proofs.lemmas.OneClock.{Makes, leaves, starts, stops, resets, speeds, command-makes}
+use Rattle.laws.proofs.lemmas.OneTurn.{frame-turns, frame-refused}
+use Rattle.laws.proofs.lemmas.Sizes.{Sixteen, reached-sixteen}
 use Rattle.demands.specs.Served.{Fresh}
-use Rattle.demands.proofs.Standing.{rests}
+use Rattle.demands.proofs.lemmas.Standing.{rests}
 
 -- a clock as an add leaves it: it does not tick, and is not started
 pub record New (t : Clocks) (id : ClockId) : Type 0 where
@@ -52,7 +54,7 @@ new-fresh st id n = record { slot = n .slot; clock = n .clock; lives = names-rea
 -- ---- the add
 
 module _ (t : Clocks) (s : Sixteen t) (v : SpeedValue) (id : ClockId) where
-  put : (w : Room) → freeOf 0 (t .keys) ≡ w → clockTold (addedAs (addAt t v w) .answer) ≡ named ofClock (id .slot) (id .generation) → New (addAt t v w .table) id
+  put : (w : Room) → freeOf 0 (t .keys) ≡ w → clockTold (addedAs (addedIn clockTable t (newClock v) w) .answer) ≡ named ofClock (id .slot) (id .generation) → New (addedIn clockTable t (newClock v) w .table) id
   put room.Nothing e a = let z : _≡_ {A = ℕ} 0 1 = cc in absurd (omega arith)
   put (room.At i g) e a =
       let p : i ≡ id .slot = cc in
@@ -75,7 +77,7 @@ module _ (t : Clocks) (s : Sixteen t) (v : SpeedValue) (id : ClockId) where
       n : ℕ
       n = firstFault (speedValueFaults v)
 
-      go : (b : Bool) → clockTold (addedAs (cond b (addAt t v (freeOf 0 (t .keys))) (refusedAdd t n)) .answer) ≡ named ofClock (id .slot) (id .generation) → New (cond b (addAt t v (freeOf 0 (t .keys))) (refusedAdd t n) .table) id
+      go : (b : Bool) → clockTold (addedAs (cond b (addedIn clockTable t (newClock v) (freeOf 0 (t .keys))) (refusedAdd clockTable t n)) .answer) ≡ named ofClock (id .slot) (id .generation) → New (cond b (addedIn clockTable t (newClock v) (freeOf 0 (t .keys))) (refusedAdd clockTable t n) .table) id
       go true a = put (freeOf 0 (t .keys)) refl a
       go false a = let z : _≡_ {A = ℕ} 0 1 = cc in absurd (omega arith)
 
@@ -124,7 +126,9 @@ unfolding afterAll
 fresh-kept st id [] n s = n
 fresh-kept st id (c ∷ cs) n s = fresh-kept (after st c) id cs (call-kept st id n c (s .0)) (s .1)
 
--- a clock that was added to a station in the course of its calls is fresh until it is started or removed
+-- A clock that was added to a station in the course of its calls is fresh until it is started or removed, so `served`
+-- can be asked of it: RULES, run. A clock that was started and then reset is fresh for `served` too, but nothing here
+-- leads there.
 pub reached-fresh :
     (cs : List Call) (v : SpeedValue) (id : ClockId) (ds : List Call) → told (afterAll freshStation cs) (clock (command.Add v)) ≡ named ofClock (id .slot) (id .generation) → All (Spares id) ds
     → Fresh (afterAll (after (afterAll freshStation cs) (clock (command.Add v))) ds) id

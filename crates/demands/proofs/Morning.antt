@@ -1,4 +1,6 @@
--- What the old station got wrong about names, and this one cannot: two ids that live are apart, what is done with one leaves every other clock as it was, an id that died stays dead, and a slot whose generations are used up holds nothing again. Assumes nothing.
+-- Names that cannot be shared: two ids that live are apart, what is done with one leaves every other clock as it was,
+-- an id that died stays dead, and a slot whose generations are used up holds nothing again. 01, "Names that cannot be
+-- shared". RULES, apart. Assumes nothing.
 use Prim.Native.Nat.{ℕ, zero, suc, _≤_}
 use native.Mathlib.Decide.{ℕ-discrete}
 use native.Mathlib.Omega.{arith}
@@ -9,19 +11,19 @@ use lib.ListN.{set}
 use lib.Dec.{eqb}
 use lib.Ieee.{Float}
 use borrow.Author.Tests.{eqb-true, eqb-false}
-use Rattle.tables.specs.Keys.{usedAt, generationAt, takenAt, leftAt, Later, same, added, removed}
-use Rattle.tables.specs.Lists.{readAt}
-use Rattle.tables.specs.declared.Key.{Key}
-use Rattle.tables.proofs.Names.{later-rises, later-numbered}
-use Rattle.tables.proofs.Places.{read-set-other, lives-parts, gives}
+use Rattle.ids.specs.Keys.{usedAt, generationAt, takenAt, leftAt, Later, same, added, removed}
+use Rattle.ids.specs.Lists.{readAt}
+use Rattle.ids.specs.declared.Key.{Key}
+use Rattle.ids.proofs.Names.{later-rises, later-numbered}
+use Rattle.ids.proofs.Places.{read-set-other, lives-parts, gives}
 use Rattle.judge.specs.Answer.{accepted}
-use Rattle.start_time.specs.declared.When.the-variants.{Never}
-use Rattle.time.specs.declared.ClockId.{ClockId}
-use Rattle.value.specs.declared.ModulatorId.{ModulatorId}
+use Rattle.times.specs.declared.start_time.When.the-variants.{Never}
+use Rattle.times.specs.declared.time.ClockId.{ClockId}
+use Rattle.values.specs.declared.value.ModulatorId.{ModulatorId}
 use Rattle.info.specs.Infos.{dueOf, whenToStartOf}
 use Rattle.clock.specs.declared.ClockInfo.{ClockInfo}
 use Rattle.clock.specs.OneClock.{infoOf}
-use Rattle.clocks.specs.ClockTables.{timeOf, clockTimeOf, clockTickingOf, clockSpeedOf}
+use Rattle.clock_table.specs.ClockTables.{timeOf, clockTimeOf, clockTickingOf, clockSpeedOf}
 use Rattle.clock.specs.declared.Clock.{Clock}
 use Rattle.commands.specs.declared.clock_command.ClockCommand.{ClockCommand}
 use Rattle.commands.specs.declared.clock_command.ClockCommand.the-variants as clocks
@@ -31,14 +33,16 @@ use Rattle.station.specs.declared.Station.{Station}
 use Rattle.report.specs.Reports.{intoBuffer, reportText, reportOf}
 use Rattle.laws.specs.Calls.{Call, clock, modulator, after, afterAll, Kind, ofClock, ofModulator, keysOf, lives, numberOf, entry, clockTarget, targetOf, Touches}
 use Rattle.laws.proofs.Apart.{two-slots, apart}
-use Rattle.laws.proofs.Entries.{Holds, holds-read, lives-used, stays-held, Names, names-of, names-where, names-read}
+use Rattle.laws.proofs.lemmas.Entries.{Holds, holds-read, lives-used, stays-held, Names, names-of, names-where, names-read}
 use Rattle.laws.proofs.Lives.{clock-removed, modulator-removed, run-later, run-spent, never-again, run-numbered}
 use Rattle.demands.specs.Events.{clockIn}
 use Rattle.demands.specs.Served.{awaited}
 
--- ---- "Two ids of the same run that are both alive name different slots"
+-- ---- two ids that live are in two slots
 
--- Of one kind, in any station at all, so in those of any run: two that live in one slot are one id. A clock id and a modulator id may have the same slot and generation: they name different tables
+-- Of one kind, in any station at all, so in those of any run: two that live in one slot are one id: RULES, apart. A
+-- clock id and a modulator id may have the same slot and generation: they name different tables. Ids that the bench's
+-- `clock.gen` and `mod.gen` make come from no call of the station, and it holds of them too, as of any state.
 pub one-id : (k : Kind) (st : Station) (i g h : ℕ) → lives k st i g ≡ true → lives k st i h ≡ true → g ≡ h
 one-id k st i g h l m = go (ℕ-discrete g h)
   where
@@ -47,17 +51,14 @@ one-id k st i g h l m = go (ℕ-discrete g h)
     go (no n) = absurd (two-slots k st i g i h l m (λ p q. n q) refl)
 
 -- an id is its slot and its generation
+id-of : {I : Type 0} (make : ℕ → ℕ → I) {i j g h : ℕ} → i ≡ j → g ≡ h → make i g ≡ make j h
+id-of make p q = rw (p, q)
+
 clock-id : (a b : ClockId) → a .slot ≡ b .slot → a .generation ≡ b .generation → a ≡ b
-clock-id a b p q = go (a .slot) (a .generation) p q
-  where
-    go : (i g : ℕ) → i ≡ b .slot → g ≡ b .generation → record { slot = i; generation = g } ≡ b
-    go i g p q = rw (p, q)
+clock-id a b p q = id-of (λ i g. record { slot = i; generation = g }) p q
 
 modulator-id : (a b : ModulatorId) → a .slot ≡ b .slot → a .generation ≡ b .generation → a ≡ b
-modulator-id a b p q = go (a .slot) (a .generation) p q
-  where
-    go : (i g : ℕ) → i ≡ b .slot → g ≡ b .generation → record { slot = i; generation = g } ≡ b
-    go i g p q = rw (p, q)
+modulator-id a b p q = id-of (λ i g. record { slot = i; generation = g }) p q
 
 module _ (st : Station) where
   pub two-clocks : (a b : ClockId) → lives ofClock st (a .slot) (a .generation) ≡ true → lives ofClock st (b .slot) (b .generation) ≡ true → a .slot ≡ b .slot → a ≡ b
@@ -66,7 +67,7 @@ module _ (st : Station) where
   pub two-modulators : (a b : ModulatorId) → lives ofModulator st (a .slot) (a .generation) ≡ true → lives ofModulator st (b .slot) (b .generation) ≡ true → a .slot ≡ b .slot → a ≡ b
   two-modulators a b l m p = modulator-id a b p (one-id ofModulator st (b .slot) (a .generation) (b .generation) (rw p at l) m)
 
--- ---- "whatever is done with one id (start, stop, reset, speed, remove) leaves every other living clock's state, ramp and report as they were"
+-- ---- what is done with one id leaves the other clocks
 
 -- the clock of the id is in t what it is in s
 pub record Same (s t : Station) (id : ClockId) : Type 0 where
@@ -119,14 +120,18 @@ module _ (st : Station) (b : ClockId) (c : Clock) (is : clockIn st b ≡ accepte
         holds = stays-held ofClock st (b .slot) (b .generation) (n .lives) x o c (n .holds);
       })
 
-  -- a call on another id, living or dead: start, stop, reset, set the speed, remove. It does not speak of a frame, which gives every clock its turn, and in which a later slot may see an earlier one
+  -- A call on another id, living or dead: start, stop, reset, set the speed, remove: RULES, apart. It speaks of the
+  -- moment of the call. A clock whose speed waits for another clock is touched later, in a frame, which gives every
+  -- clock its turn and in which a later slot may see an earlier one.
   pub others-stay : (a : ClockId) → (a ≡ b → ⊥) → (x : ClockCommand) → clockTarget x ≡ entry ofClock (a .slot) (a .generation) → Same st (after st (clock x)) b
   others-stay a o x e = not-acted-on (clock x) (rw e (λ q. o (clock-id a b (cc) (cc))))
 
--- ---- "an id that died never lives again in any later state, until its slot's generations are used up"
+-- ---- an id that died stays dead
 
 module _ (k : Kind) (st : Station) (i g : ℕ) where
-  -- an id that lived, and behind some calls does not, whatever calls come after: there is no exception, since a slot that is used up is never given again (`used-up`)
+  -- an id that lived, and behind some calls does not, whatever calls come after: RULES, apart. There is no
+  -- exception, since a slot that is used up is never given again (`used-up`). It speaks of calls of the station: what
+  -- the bench's `clock.gen` and `mod.gen` write into a table is none
   pub stays-dead : lives k st i g ≡ true → (cs : List Call) → lives k (afterAll st cs) i g ≡ false → (ds : List Call) → lives k (afterAll (afterAll st cs) ds) i g ≡ false
   stays-dead l cs d ds = never-again k st i g l cs d ds
 
@@ -140,7 +145,7 @@ module _ (st : Station) where
       → lives ofModulator (afterAll (after st (modulator (modulators.Remove id))) cs) (id .slot) (id .generation) ≡ false
   removed-modulator id z cs = run-spent ofModulator (after st (modulator (modulators.Remove id))) (id .slot) (id .generation) (modulator-removed st id z) cs .dead
 
--- "A slot freed at generation 4,294,967,295 is retired": nothing lives in it again at all, under any generation
+-- nothing lives again in a slot whose generations are used up, under any generation: RULES, retired-slot
 record Retired (ks : List Key) (i : ℕ) : Type 0 where
   empty : usedAt ks i ≡ false
   last : 4294967295 ≤ generationAt ks i
@@ -168,7 +173,8 @@ module _ (i : ℕ) where
       → lives k (afterAll st cs) i g ≡ false
   retired-slot k st e l cs g = rw (lives-parts (keysOf k (afterAll st cs)) i g, retired-later (run-later k st cs) (record { empty = e; last = l }) .empty)
 
-  -- once the last id of a slot has died: whatever calls led to it, and whatever calls follow. It does not say that a slot ever comes so far
+  -- once the last id of a slot has died: whatever calls led to it, and whatever calls follow. It does not say that a
+  -- slot ever comes so far
   pub used-up :
       (k : Kind) (cs : List Call) → lives k (afterAll freshStation cs) i 4294967295 ≡ true → (ds : List Call) → lives k (afterAll (afterAll freshStation cs) ds) i 4294967295 ≡ false
       → (es : List Call) (g : ℕ) → lives k (afterAll (afterAll (afterAll freshStation cs) ds) es) i g ≡ false

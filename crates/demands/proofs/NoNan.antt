@@ -1,4 +1,6 @@
--- The NaN of the old station cannot come: in every station that calls reach each clock's ticks per second are finite and not negative and its fraction lies in 0..1, and the very set that made it, from speed 0 to seconds per tick, is refused by 3 and leaves every clock as it was. Assumes nothing.
+-- No NaN stops a clock: in every station that calls reach each clock's ticks per second are finite and not negative and
+-- its fraction lies in 0..1, and the set that would make one, from speed 0 to seconds per tick, is refused by 3 and
+-- leaves every clock as it was. 01, "Speeds"; RULES, no-nan. Assumes nothing.
 use Prim.Native.Nat.{ℕ, zero, suc, _*_, _<_}
 use native.Mathlib.Nat.{zero-mul, mul-pos, zero-lt-suc, lt-irrefl}
 use native.Mathlib.Omega.{arith}
@@ -11,29 +13,30 @@ use lib.Ieee.{Float, nan, inf, fin, binary64, up, down, div, eq}
 use lib.Ieee.Fits.{up-pos}
 use borrow.Author.Tests.{eqb-true, eq-eqb}
 use Rattle.doubles.specs.Doubles.{finiteOf, zeroF}
-use Rattle.tables.specs.Lists.{readAt}
+use Rattle.ids.specs.Lists.{readAt}
 use Rattle.judge.specs.Answer.{accepted}
 use Rattle.judge.specs.Judge.{noFaults, bothFaults, firstFault}
-use Rattle.clock_speed.specs.Speeds.{badReading, faultsOfSpeed, readFaults}
+use Rattle.values.specs.Speeds.{badReading, faultsOfSpeed, readFaults}
 use Rattle.judge.specs.declared.Faults.{Faults}
-use Rattle.clock_speed.specs.declared.ClockSpeed.{ClockSpeed}
-use Rattle.clock_speed.specs.declared.ClockSpeed.the-variants.{SecondsPerTick, TicksPerSecond, TicksPerMinute}
-use Rattle.time.specs.declared.ClockId.{ClockId}
-use Rattle.tween.specs.Easings.{tweenFaults}
-use Rattle.value.specs.Values.{speedValueFaults}
-use Rattle.tween.specs.declared.Tween.{Tween}
-use Rattle.value.specs.declared.SpeedValue.{SpeedValue}
-use Rattle.speed_parameter.specs.SpeedParameters.{setOf, targetUnit, setFaults, changeOf}
-use Rattle.speed_parameter.specs.declared.SpeedParameter.{SpeedParameter}
-use Rattle.speed_parameter.specs.declared.SpeedSet.{SpeedSet}
-use Rattle.clocks.specs.ClockTables.{refusedCall, whereIs, bySet, setSpeedOf, readFound}
+use Rattle.values.specs.declared.clock_speed.ClockSpeed.{ClockSpeed}
+use Rattle.values.specs.declared.clock_speed.ClockSpeed.the-variants.{SecondsPerTick, TicksPerSecond, TicksPerMinute}
+use Rattle.times.specs.declared.time.ClockId.{ClockId}
+use Rattle.times.specs.Easings.{tweenFaults}
+use Rattle.values.specs.Values.{speedValueFaults}
+use Rattle.times.specs.declared.tween.Tween.{Tween}
+use Rattle.values.specs.declared.value.SpeedValue.{SpeedValue}
+use Rattle.parameter.specs.SpeedParameters.{setOf, targetUnit, setFaults, trySetOf}
+use Rattle.parameter.specs.declared.speed.SpeedParameter.{SpeedParameter}
+use Rattle.parameter.specs.declared.speed.SpeedSet.{SpeedSet}
+use Rattle.ids.specs.Tables.{refusedCall, whereIs, readFound}
+use Rattle.clock_table.specs.ClockTables.{clockTable, bySet, setSpeedOf}
 use Rattle.clock.specs.declared.Clock.{Clock}
-use Rattle.clocks.specs.declared.Clocks.{Clocks}
-use Rattle.clocks.specs.declared.ClockDone.{ClockDone}
+use Rattle.clock_table.specs.declared.Clocks.{Clocks}
+use Rattle.clock_table.specs.declared.ClockDone.{ClockDone}
 use Rattle.station.specs.Stations.{freshStation}
 use Rattle.laws.specs.Calls.{Call, afterAll}
 use Rattle.laws.specs.SoundStation.{All, CallDoubles, Ticks}
-use Rattle.laws.proofs.Entries.{Holds, names-of, names-on}
+use Rattle.laws.proofs.lemmas.Entries.{Holds, names-of, names-on}
 use Rattle.laws.proofs.Reached.{no-nan}
 use Rattle.demands.specs.Events.{clockIn}
 
@@ -45,8 +48,9 @@ all-holds P [] i x h a = let z : _≡_ {A = ℕ} 0 1 = cc in absurd (omega arith
 all-holds P (y ∷ l) zero x h a = let e : y ≡ x = cc in rw e at (a .0)
 all-holds P (y ∷ l) (suc i) x h a = all-holds P l i x h (a .1)
 
--- `Ticks`: "a clock's ticks per second are finite and not negative, and the fraction of its time lies in 0..1, is not 1 and is not −0.0". Of the calls is asked only that "All floats are doubles": any number and order of
--- them, accepted or refused. It does not say how fast a clock ticks.
+-- `Ticks` says it of one clock: RULES, no-nan. Of the calls is asked only that their floats are doubles: any number and
+-- order of them, accepted or refused. It does not say how fast a clock ticks, nor that one moves: `summed` of
+-- `ServedOnTime` and `a-clock-goes-on-moving` of `Useful` do.
 module _ (cs : List Call) (F : All CallDoubles cs) where
   -- every clock of the table, those of unused slots too
   pub every-clock-ticks : All Ticks (afterAll freshStation cs .clocks .clocks)
@@ -58,7 +62,7 @@ module _ (cs : List Call) (F : All CallDoubles cs) where
       let t = afterAll freshStation cs .clocks in
       all-holds Ticks (t .clocks) (id .slot) c (names-of t id c e .holds) every-clock-ticks
 
--- ---- "Tweening from speed 0 to seconds per tick, which makes NaN"
+-- ---- the set that would make a NaN
 
 -- 0 of either sign; seconds per tick are never 0
 abbrev pub still : ClockSpeed → Bool
@@ -81,7 +85,7 @@ over-zero m i h (fin s n d) e = rw (eq-eqb n 0 (no-size n d (down d) (eqb-true (
     first true b e = refl
     first false b e = e
 
--- "the present [..] speed, read in the target's unit, is not finite": 1/0 or 60/0
+-- speed 0 has no reading in seconds per tick: 1/0 or 60/0, RULES, bad-reading
 unreadable : (s : ClockSpeed) (y : Float) → still s ≡ true → badReading s (SecondsPerTick y) ≡ true
 unreadable (SecondsPerTick x) y e = absurd (false≢true e)
 unreadable (TicksPerSecond x) y e = rw (over-zero 1 (pos 0) refl x e)
@@ -91,11 +95,13 @@ by-three : (a b r : Faults) → a ≡ noFaults → b ≡ noFaults → r ≡ faul
 unfolding firstFault
 by-three a b r p q e = rw (p, q, e)
 
--- Every value whose target is in seconds per tick, a fixed speed or a mapping, and every tween, where nothing else of the call is refused. What a tween that is under way makes of its speed is told above, not here
+-- Every value whose target is in seconds per tick, a fixed speed or a mapping, and every tween, where nothing else of
+-- the call is refused. What a tween that is under way makes of its speed is told above, not here. A program that
+-- refuses every set to seconds per tick would meet these two; `accepted-exactly` of `Exactly` rules it out.
 module _ (v : SpeedValue) (y : Float) (u : targetUnit v ≡ SecondsPerTick y) (a : speedValueFaults v ≡ noFaults) (w : Tween) (b : tweenFaults w ≡ noFaults) where
   -- for every parameter at speed 0, which comes back as it was
-  pub parameter-stays : (p : SpeedParameter) → still (p .raw) ≡ true → changeOf p v w ≡ record { refused = 3; parameter = p }
-  unfolding changeOf
+  pub parameter-stays : (p : SpeedParameter) → still (p .raw) ≡ true → trySetOf p v w ≡ record { refused = 3; parameter = p }
+  unfolding trySetOf
   parameter-stays p z = refuses (firstFault (setFaults p v w)) (by-three (speedValueFaults v) (tweenFaults w) (readFaults (p .raw) (targetUnit v)) a b (ap faultsOfSpeed bad))
     where
       bad : badReading (p .raw) (targetUnit v) ≡ true
@@ -104,10 +110,11 @@ module _ (v : SpeedValue) (y : Float) (u : targetUnit v ≡ SecondsPerTick y) (a
       refuses : (n : ℕ) → n ≡ 3 → _≡_ {A = SpeedSet} (cond (eqb n 0) (record { refused = 0; parameter = setOf p v w }) (record { refused = n; parameter = p })) (record { refused = 3; parameter = p })
       refuses n e = rw e
 
-  -- for every table, and every id that names a clock in it which is at speed 0: the table comes back, and so that clock, as it was
-  pub clock-stays : (t : Clocks) (id : ClockId) (c : Clock) → readFound t (whereIs t id) (λ x. x) ≡ accepted c → still (c .speed .raw) ≡ true → (setSpeedOf t id v w .refused ≡ 3) × (setSpeedOf t id v w .table ≡ t)
+  -- for every table, and every id that names a clock in it which is at speed 0: the table comes back, and so that
+  -- clock, as it was
+  pub clock-stays : (t : Clocks) (id : ClockId) (c : Clock) → readFound clockTable t (whereIs clockTable t id) (λ x. x) ≡ accepted c → still (c .speed .raw) ≡ true → (setSpeedOf t id v w .refused ≡ 3) × (setSpeedOf t id v w .table ≡ t)
   unfolding setSpeedOf
   clock-stays t id c is z =
-      let r : setSpeedOf t id v w ≡ refusedCall t 3 =
-      names-on t id c (names-of t id c is) (λ i x. bySet t i x (changeOf (x .speed) v w)) ∙ ap (bySet t (id .slot) c) (parameter-stays (c .speed) z) in
+      let r : setSpeedOf t id v w ≡ refusedCall clockTable t 3 =
+      names-on t id c (names-of t id c is) (λ i x. bySet t i x (trySetOf (x .speed) v w)) ∙ ap (bySet t (id .slot) c) (parameter-stays (c .speed) z) in
       (ap (λ (d : ClockDone). d .refused) r, ap (λ (d : ClockDone). d .table) r)

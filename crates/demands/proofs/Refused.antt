@@ -1,4 +1,5 @@
--- Demand 1: what a refusal hands back, in one theorem over every call. Assumes nothing.
+-- Demand 1: what a refusal hands back, in one theorem over every call. 01, "Refusal numbers". RULES, refusal. Assumes
+-- nothing.
 use Prim.Native.Nat.{ℕ}
 use mathlib.Core.Path.{_≡_, refl, ap}
 use mathlib.Core.Bool.{Bool, true, false, cond}
@@ -6,8 +7,9 @@ use mathlib.Core.List.{List}
 use lib.Dec.{ltb}
 use lib.ListN.{length}
 use Rattle.judge.specs.Answer.{Answer, accepted, refused}
-use Rattle.clocks.specs.ClockTables.{readFound, whereIs}
-use Rattle.info.specs.ParametersIn.{floatDueOf, floatSourceOf, updateFloatIn, speedDueOf, speedSourceOf, updateSpeedIn}
+use Rattle.ids.specs.Tables.{readFound, whereIs}
+use Rattle.clock_table.specs.ClockTables.{clockTable}
+use Rattle.info.specs.ParametersIn.{floatDueOf, floatSourceOf, tryUpdateFloatIn, speedDueOf, speedSourceOf, tryUpdateSpeedIn}
 use Rattle.station.specs.Stations.{infoIn}
 use Rattle.report.specs.Reports.{unchanged as asItWas, atStart, intoBuffer, reportText, reportOf}
 use Rattle.laws.proofs.Refusals.{refused-leaves, float-change-leaves, float-advance-leaves, speed-change-leaves, speed-advance-leaves}
@@ -22,10 +24,12 @@ unwritten out (accepted text) h = go (ltb (length out) 96) h
     go true h = refl
     go false h = absurd (h refl)
 
--- "A refusal returns its number, and the state, value or buffer given in comes back unchanged": whatever was lent, and whatever the number. It does not say which calls are refused, which `exactly` of `Exactly` does,
--- nor what an accepted call hands back, which the entries' own definitions do.
+-- A refused call hands back all that it was lent, as it was: RULES, refusal. It asks nothing: whatever was lent, and
+-- whatever the number. It does not say which calls are refused, which `exactly` of `Exactly` does, nor what an accepted
+-- call hands back, which the entries' own definitions do. It does not speak of the reports of a refused frame:
+-- `undoneOf` sets them to none.
 pub unchanged : (l : Lent) (e : Entry) → (numberGiven l e ≡ 0 → ⊥) → handedBack l e ≡ l
-unfolding updateFloatIn updateSpeedIn reportOf
+unfolding tryUpdateFloatIn tryUpdateSpeedIn reportOf
 unchanged l (onStation c) h = ap (withStation l) (refused-leaves (l .station) c h)
 unchanged l (setFloat v w) h = ap (withFloat l) (float-change-leaves (l .float) v w h)
 unchanged l (setSpeed v w) h = ap (withSpeed l) (speed-change-leaves (l .speed) v w h)
@@ -33,7 +37,7 @@ unchanged l (updateFloat dt) h = let i = infoIn (l .station) in ap (withFloat l)
 unchanged l (updateSpeed dt) h = let i = infoIn (l .station) in ap (withSpeed l) (speed-advance-leaves (l .speed) dt (speedDueOf i (l .speed)) (speedSourceOf i (l .speed)) h)
 unchanged l (advanceFloat dt w i) h = ap (withFloat l) (float-advance-leaves (l .float) dt w i h)
 unchanged l (advanceSpeed dt w i) h = ap (withSpeed l) (speed-advance-leaves (l .speed) dt w i h)
-unchanged l (report id) h = let t = l .station .clocks in ap (withBuffer l) (unwritten (l .buffer) (readFound t (whereIs t id) (reportText id)) h)
+unchanged l (report id) h = let t = l .station .clocks in ap (withBuffer l) (unwritten (l .buffer) (readFound clockTable t (whereIs clockTable t id) (reportText id)) h)
 unchanged l (when t) h = refl
 unchanged l (readFloat v) h = refl
 unchanged l (readSpeed v) h = refl

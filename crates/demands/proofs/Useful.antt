@@ -1,4 +1,6 @@
--- "Four useless builds to shut out", each ruled out by a theorem of its name: three by calls on the fresh station, computed, and the clock that only looks busy by demand 3's sum, over every run. Assumes nothing.
+-- Four useless programs, each ruled out by a theorem of its name: three by calls on the fresh station, computed, and
+-- the clock that only looks busy by demand 3's sum, over every run. 01, "How far each statement binds"; RULES,
+-- useless-builds. Assumes nothing.
 use Prim.Native.Nat.{ℕ, _+_, _<_}
 use native.Mathlib.Nat.{zero-add}
 use native.Mathlib.Omega.{arith}
@@ -6,32 +8,32 @@ use mathlib.Core.Path.{_≡_, refl, sym, ap, _∙_}
 use mathlib.Core.List.{List}
 use lib.Ieee.{Float, add, sub, mul, lt, le, eq, toUnsigned}
 use Rattle.doubles.specs.Doubles.{zeroF, oneF}
-use Rattle.tables.specs.Keys.{freeOf, livesIn, findOf}
-use Rattle.tables.specs.Lists.{readAt}
+use Rattle.ids.specs.Keys.{freeOf, livesIn, findOf}
+use Rattle.ids.specs.Lists.{readAt}
 use Rattle.ticks.specs.WholeTicks.{roomFor, takenOf}
 use Rattle.judge.specs.Answer.{Answer, accepted, refused}
 use Rattle.judge.specs.Judge.{firstFault}
-use Rattle.clock_speed.specs.declared.ClockSpeed.the-variants.{TicksPerSecond}
-use Rattle.time.specs.declared.ClockId.{ClockId}
-use Rattle.time.specs.declared.ClockTime.{ClockTime}
-use Rattle.value.specs.declared.SpeedValue.{SpeedValue}
-use Rattle.value.specs.declared.SpeedValue.the-variants.{Fixed}
-use Rattle.speed_parameter.specs.SpeedParameters as speeds
+use Rattle.values.specs.declared.clock_speed.ClockSpeed.the-variants.{TicksPerSecond}
+use Rattle.times.specs.declared.time.ClockId.{ClockId}
+use Rattle.times.specs.declared.time.ClockTime.{ClockTime}
+use Rattle.values.specs.declared.value.SpeedValue.{SpeedValue}
+use Rattle.values.specs.declared.value.SpeedValue.the-variants.{Fixed}
+use Rattle.parameter.specs.SpeedParameters as speeds
 use Rattle.clock.specs.OneClock.{tickOf, updateClockOf}
-use Rattle.clocks.specs.ClockTables.{addClockOf, tickOnOf, timeOf, clockTimeOf}
+use Rattle.clock_table.specs.ClockTables.{addClockOf, tickOnOf, timeOf, clockTimeOf}
 use Rattle.commands.specs.ClockCommands.{runClockOf}
 use Rattle.commands.specs.declared.clock_command.ClockCommand.the-variants.{Add, Start}
-use Rattle.frame.specs.Frames.{modulatorTurns, modulatorsTurned, clockTurns, clocksTurned, frameOf}
+use Rattle.station.specs.Frames.{modulatorTurns, modulatorsTurned, clockTurns, clocksTurned, frameOf}
 use Rattle.station.specs.Stations.{freshStation, infoIn}
-use Rattle.turns.specs.Turns.{turnClock}
+use Rattle.station.specs.Turns.{turnClock}
 use Rattle.station.specs.declared.Station.{Station}
 use Rattle.laws.specs.Calls.{clock, frame, after, numberOf}
 use Rattle.laws.specs.SoundStation.{All}
-use Rattle.laws.proofs.Entries.{names-read}
+use Rattle.laws.proofs.lemmas.Entries.{names-read}
 use Rattle.demands.specs.Events.{Event, afterEvents, placeAt, advanceIn, advancesOf, total}
 use Rattle.demands.specs.Served.{Fresh, started, Kept, Grid}
-use Rattle.demands.proofs.Going.{Going, call-goes, start-goes}
-use Rattle.demands.proofs.Runs.{run-goes}
+use Rattle.demands.proofs.lemmas.Going.{Going, call-goes, start-goes}
+use Rattle.demands.proofs.lemmas.Runs.{run-goes}
 
 -- one tick a second
 abbrev pub one : SpeedValue
@@ -48,7 +50,8 @@ withClock = after freshStation (clock (Add one))
 abbrev pub running : Station
 running = after withClock (clock (Start first))
 
--- "refusing everything breaks demand 1's exact conditions and demand 2": an add, a start and a frame are accepted. Which calls are, in general, `accepted-exactly` of `Exactly` says
+-- Not every call is refused: an add, a start and a frame are accepted. A program that accepts these three alone meets
+-- it; which calls are accepted, in general, `accepted-exactly` of `Exactly` says.
 pub some-call-is-accepted : (numberOf freshStation (clock (Add one)) ≡ 0) × (numberOf withClock (clock (Start first)) ≡ 0) × (numberOf running (frame oneF) ≡ 0)
 unfolding firstFault add sub mul lt le eq toUnsigned freeOf livesIn findOf readAt roomFor takenOf tickOf updateClockOf addClockOf tickOnOf runClockOf speeds.updateOf infoIn turnClock modulatorTurns modulatorsTurned clockTurns clocksTurned frameOf
 some-call-is-accepted = (refl, refl, refl)
@@ -66,17 +69,21 @@ abbrev ticksIn : Answer ClockTime → ℕ
 ticksIn (accepted t) = t .ticks
 ticksIn (refused n) = 0
 
--- "one constant answer breaks 2": the same question, of the same clock, before a frame and behind it. What each call answers, in general, is its own definition
+-- Not every answer is the same: one question of one clock, before a frame and behind it. A program that is right in
+-- this case alone meets it; what each call answers, in general, is its own definition, which its statement cites.
 pub answers-differ : clockTimeOf (running .clocks) first ≡ clockTimeOf (after running (frame oneF) .clocks) first → ⊥
 answers-differ e = let z : _≡_ {A = ℕ} 0 1 = ap ticksIn (sym at-zero ∙ e ∙ at-one) in omega arith
 
--- "a frame that changes nothing breaks 2 and 3": this one moves the clock by a tick. It does not say that every frame changes something: one of a station at rest need not
+-- Not every frame leaves the station as it was: this one moves the clock by a tick. It does not say that every frame
+-- changes something: one of a station at rest need not. A program whose other frames do nothing meets it; the statement
+-- of `frame` and `a-clock-goes-on-moving` rule that one out.
 pub a-frame-changes-something : after running (frame oneF) ≡ running → ⊥
 a-frame-changes-something e = answers-differ (ap (λ (st : Station). clockTimeOf (st .clocks) first) (sym e))
 
--- ---- "a clock that moves in its first frame and then only looks busy breaks 3's sum"
+-- ---- a clock does not stop after its first frame
 
--- the clock of the id before and behind a call that leads from one station to the other: at the sum n of its advances, and then at n and a
+-- the clock of the id before and behind a call that leads from one station to the other: at the sum n of its advances,
+-- and then at n and a
 pub record Later (was is : Station) (id : ClockId) (n a : ℕ) : Type 0 where
   pub before : ClockTime
   pub toldBefore : clockTimeOf (was .clocks) id ≡ accepted before
@@ -106,8 +113,11 @@ gone-on s t id n a x y h =
       later = further _ _ a e h;
     }
 
--- Behind any run as in demand 3 (a fresh clock, started behind `st`; `es` does not stop, reset or remove it; its advances on the grid) one more frame with an advance on the grid and above 0 puts the clock strictly
--- later, by exactly the advance. That the frame is accepted is not asked: a refused one has no advance, and so none above 0. Nothing is said of a frame whose advance is 0, and no update of a parameter is asked for.
+-- Behind any run as in demand 3 (a fresh clock, started behind `st`; `es` does not stop, reset or remove it; its
+-- advances on the grid) one more frame with an advance on the grid and above 0 puts the clock strictly later, by
+-- exactly the advance: RULES, useless-builds and exact-sum. It gives the exact distance after any run, so no clock that
+-- only looks busy meets it. That the frame is accepted is not asked: a refused one has no advance, and so none above 0.
+-- Nothing is said of a frame whose advance is 0, and no update of a parameter is asked for.
 pub a-clock-goes-on-moving :
     (st : Station) (id : ClockId) (es : List Event) (dt : Float) → Fresh st id → Kept id es → All Grid (advancesOf id (started st id) es)
     → All Grid (advanceIn id (afterEvents (started st id) es) (frame dt)) → 0 < total (advanceIn id (afterEvents (started st id) es) (frame dt))

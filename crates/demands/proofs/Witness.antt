@@ -1,4 +1,8 @@
--- What `served` asks for can be met: one run from the fresh station, computed. A parameter waits for tick 1 and fraction 0.5 of a clock in a slot that is used a second time; beside it a fast clock, a clock linked to a modulator, a call on a dead id, a frame that the fast clock refuses, an update with a refused dt, and a change of speed between the frames. Assumes nothing.
+-- What `served` asks for can be met: one run from the fresh station, computed. A parameter waits for tick 1 and
+-- fraction 0.5 of a clock in a slot that is used a second time; beside it a fast clock, a clock linked to a modulator,
+-- a call on a dead id, a frame that the fast clock refuses, an update with a refused dt, and a change of speed between
+-- the frames. The parameter is of kind f64 with a fixed target: no run of the speed kind or of a linked parameter is
+-- computed, and `served` speaks of them too. RULES, served. Assumes nothing.
 use Prim.Native.Nat.{ℕ, _*_, _^_}
 use native.Mathlib.Omega.{arith}
 use mathlib.Core.Path.{_≡_, refl, sym, ap, _∙_}
@@ -8,40 +12,40 @@ use lib.IntN.{pos, negsuc}
 use lib.Dec.{lit≤}
 use lib.Ieee.{Float, fin, add, sub, mul, div, lt, le, eq, fits, toUnsigned, ofInt}
 use Rattle.doubles.specs.Doubles.{zeroF, oneF, halfF}
-use Rattle.tables.specs.Keys.{freeOf, livesIn, findOf}
-use Rattle.tables.specs.Lists.{readAt}
+use Rattle.ids.specs.Keys.{freeOf, livesIn, findOf}
+use Rattle.ids.specs.Lists.{readAt}
 use Rattle.ticks.specs.WholeTicks.{roomFor, takenOf}
-use Rattle.duration.specs.Durations.{secondsOf}
+use Rattle.times.specs.Durations.{secondsOf}
 use Rattle.judge.specs.Judge.{firstFault}
-use Rattle.clock_speed.specs.Speeds.{interpolateSpeedOf}
-use Rattle.time.specs.Times.{orderOf}
-use Rattle.clock_speed.specs.declared.ClockSpeed.the-variants.{TicksPerSecond}
-use Rattle.start_time.specs.declared.StartTime.the-variants.{Immediate, At}
-use Rattle.time.specs.declared.ClockId.{ClockId}
-use Rattle.tween.specs.Easings.{applyOf, tweenValueOf}
-use Rattle.value.specs.Values.{amountOf, mapSpeedOf}
-use Rattle.tween.specs.declared.Easing.the-variants.{Linear}
-use Rattle.tween.specs.declared.Tween.{Tween}
-use Rattle.value.specs.declared.FloatValue.the-variants as float
-use Rattle.value.specs.declared.SpeedValue.{SpeedValue}
-use Rattle.value.specs.declared.SpeedValue.the-variants as speed
-use Rattle.course.specs.Courses.{newCourse, stepOf}
-use Rattle.float_parameter.specs.FloatParameters as floats
-use Rattle.speed_parameter.specs.SpeedParameters as speeds
-use Rattle.float_parameter.specs.declared.FloatParameter.{FloatParameter}
-use Rattle.info.specs.ParametersIn.{updateFloatIn}
+use Rattle.values.specs.Speeds.{interpolateSpeedOf}
+use Rattle.times.specs.Times.{orderOf}
+use Rattle.values.specs.declared.clock_speed.ClockSpeed.the-variants.{TicksPerSecond}
+use Rattle.times.specs.declared.start_time.StartTime.the-variants.{Immediate, At}
+use Rattle.times.specs.declared.time.ClockId.{ClockId}
+use Rattle.times.specs.Easings.{applyOf, tweenValueOf}
+use Rattle.values.specs.Values.{amountOf, mapSpeedOf}
+use Rattle.times.specs.declared.tween.Easing.the-variants.{Linear}
+use Rattle.times.specs.declared.tween.Tween.{Tween}
+use Rattle.values.specs.declared.value.FloatValue.the-variants as float
+use Rattle.values.specs.declared.value.SpeedValue.{SpeedValue}
+use Rattle.values.specs.declared.value.SpeedValue.the-variants as speed
+use Rattle.parameter.specs.Courses.{newCourse, stepOf}
+use Rattle.parameter.specs.FloatParameters as floats
+use Rattle.parameter.specs.SpeedParameters as speeds
+use Rattle.parameter.specs.declared.float.FloatParameter.{FloatParameter}
+use Rattle.info.specs.ParametersIn.{tryUpdateFloatIn}
 use Rattle.info.specs.Infos.{whenToStartOf, modulatorValueOf}
 use Rattle.clock.specs.OneClock.{tickOf, updateClockOf}
-use Rattle.clocks.specs.ClockTables.{addClockOf, removeOf, tickOnOf, setSpeedOf}
+use Rattle.clock_table.specs.ClockTables.{addClockOf, removeOf, tickOnOf, setSpeedOf}
 use Rattle.modulator.specs.Tweeners.{updateTweenerOf}
-use Rattle.modulators.specs.ModulatorTables.{putOf, addTweenerOf}
+use Rattle.modulator_table.specs.ModulatorTables.{putOf, addTweenerOf}
 use Rattle.commands.specs.ClockCommands.{runClockOf}
 use Rattle.commands.specs.ModulatorCommands.{runModulatorOf}
 use Rattle.commands.specs.declared.clock_command.ClockCommand.the-variants as command
 use Rattle.commands.specs.declared.modulator_command.ModulatorCommand.the-variants as modulators
-use Rattle.frame.specs.Frames.{modulatorTurns, modulatorsTurned, clockTurns, clocksTurned, frameOf}
+use Rattle.station.specs.Frames.{modulatorTurns, modulatorsTurned, clockTurns, clocksTurned, frameOf}
 use Rattle.station.specs.Stations.{freshStation, infoIn}
-use Rattle.turns.specs.Turns.{turnClock, turnModulator}
+use Rattle.station.specs.Turns.{turnClock, turnModulator}
 use Rattle.station.specs.declared.Station.{Station}
 use Rattle.laws.specs.Calls.{Call, clock, modulator, frame, after, afterAll, ofClock, named, told, numberOf}
 use Rattle.laws.specs.SoundStation.{All}
@@ -154,7 +158,7 @@ rest = floats.newOf (float.Fixed zeroF) zeroF
 
 waiting : FloatParameter
 unfolding rest waits
-waiting = floats.changeOf rest (float.Fixed (fin false 1 (pos 3))) waits .parameter
+waiting = floats.trySetOf rest (float.Fixed (fin false 1 (pos 3))) waits .parameter
 
 -- ---- what is computed
 
@@ -165,13 +169,13 @@ record Computed : Type 0 where
   -- four of the five frames are accepted
   advances : advancesOf ours (started st ours) es ≡ fin false 3 (negsuc 2) ∷ fin false 3 (negsuc 1) ∷ fin false 3 (negsuc 1) ∷ fin false 3 (negsuc 1) ∷ []
   ordered : inOrder false (started st ours) es ≡ true
-  accepts : floats.changeOf rest (float.Fixed (fin false 1 (pos 3))) waits .refused ≡ 0
+  accepts : floats.trySetOf rest (float.Fixed (fin false 1 (pos 3))) waits .refused ≡ 0
   -- tick 1 alone is reached by the second update, tick 1 and a half by the third
   third : firstPass (testsOf (awaited ours 1 halfF) (started st ours) es) ≡ at 2
   times : progressOf floatKind (courseOf floatKind (started st ours) waiting es) ≡ running (newCourse waits) ∷ running (newCourse waits) ∷ running (record { tween = waits; time = quarter }) ∷ resting ∷ []
 
 computed : Computed
-unfolding courseOf progressOf testsOf firstPass advancesOf advanceIn inOrder moves waiting waits rest es st ours before pace between quarter idOf updateFloatIn floats.changeOf floats.updateOf floats.tweenedOf floats.advanceOf afterAll runClockOf runModulatorOf addClockOf removeOf tickOnOf setSpeedOf addTweenerOf putOf freeOf livesIn findOf readAt firstFault le lt eq add sub mul div toUnsigned ofInt secondsOf interpolateSpeedOf applyOf tweenValueOf amountOf mapSpeedOf stepOf speeds.updateOf speeds.tweenedOf speeds.changeOf modulatorValueOf whenToStartOf orderOf roomFor takenOf tickOf updateClockOf updateTweenerOf infoIn turnClock turnModulator modulatorTurns modulatorsTurned clockTurns clocksTurned frameOf
+unfolding courseOf progressOf testsOf firstPass advancesOf advanceIn inOrder moves waiting waits rest es st ours before pace between quarter idOf tryUpdateFloatIn floats.trySetOf floats.updateOf floats.tweenedOf floats.tryUpdateOf afterAll runClockOf runModulatorOf addClockOf removeOf tickOnOf setSpeedOf addTweenerOf putOf freeOf livesIn findOf readAt firstFault le lt eq add sub mul div toUnsigned ofInt secondsOf interpolateSpeedOf applyOf tweenValueOf amountOf mapSpeedOf stepOf speeds.updateOf speeds.tweenedOf speeds.trySetOf modulatorValueOf whenToStartOf orderOf roomFor takenOf tickOf updateClockOf updateTweenerOf infoIn turnClock turnModulator modulatorTurns modulatorsTurned clockTurns clocksTurned frameOf
 computed = record { dead = refl; far = refl; advances = refl; ordered = refl; accepts = refl; third = refl; times = refl }
 
 -- ---- the theorem, applied

@@ -1,4 +1,5 @@
--- Demand 1: document 01's table of refusals. Which of its conditions hold of a call's arguments, each judged by itself, whatever else is wrong. Assumes nothing.
+-- Demand 1: which conditions of the refusal table hold of a call's arguments, each judged by itself, whatever else is
+-- wrong. 01, "Refusal numbers". RULES, refusal-numbers. Assumes nothing.
 use Prim.Native.Nat.{ℕ, zero, suc, _+_, _-_, _^_}
 use mathlib.Core.Bool.{Bool, true, false, not, _&&_, _||_, cond}
 use mathlib.Core.List.{List, [], _∷_}
@@ -7,27 +8,27 @@ use lib.ListN.{length}
 use lib.Dec.{ltb}
 use lib.Ieee.{Float, fin, binary64, add, neg, lt, toUnsigned}
 use Rattle.doubles.specs.Doubles.{signOf, wholeOf}
-use Rattle.tables.specs.Lists.{readAt}
-use Rattle.tables.specs.declared.Key.{Key}
+use Rattle.ids.specs.Lists.{readAt}
+use Rattle.ids.specs.declared.Key.{Key}
 use Rattle.ticks.specs.WholeTicks.{takenOf}
 use Rattle.ticks.specs.declared.Taken.{Taken}
 use Rattle.ticks.specs.declared.Taken.the-variants as taken
 use Rattle.judge.specs.Answer.{Answer, accepted, refused}
 use Rattle.judge.specs.Judge.{noFaults, bothFaults, dtFaults, floatFaults, fractionFaults}
-use Rattle.clock_speed.specs.Speeds.{speedFaults}
-use Rattle.start_time.specs.Starts.{startFaults}
+use Rattle.values.specs.Speeds.{speedFaults}
+use Rattle.times.specs.Starts.{startFaults}
 use Rattle.judge.specs.declared.Faults.{Faults}
-use Rattle.time.specs.declared.ClockId.{ClockId}
-use Rattle.time.specs.declared.ClockTime.{ClockTime}
-use Rattle.tween.specs.Easings.{tweenFaults}
-use Rattle.value.specs.Values.{floatValueFaults, speedValueFaults}
+use Rattle.times.specs.declared.time.ClockId.{ClockId}
+use Rattle.times.specs.declared.time.ClockTime.{ClockTime}
+use Rattle.times.specs.Easings.{tweenFaults}
+use Rattle.values.specs.Values.{floatValueFaults, speedValueFaults}
 use Rattle.waveform.specs.Waves.{waveFaults}
-use Rattle.tween.specs.declared.Tween.{Tween}
-use Rattle.value.specs.declared.ModulatorId.{ModulatorId}
-use Rattle.value.specs.declared.SpeedValue.{SpeedValue}
-use Rattle.float_parameter.specs.FloatParameters as floats
-use Rattle.speed_parameter.specs.SpeedParameters as speeds
-use Rattle.speed_parameter.specs.declared.SpeedParameter.{SpeedParameter}
+use Rattle.times.specs.declared.tween.Tween.{Tween}
+use Rattle.values.specs.declared.value.ModulatorId.{ModulatorId}
+use Rattle.values.specs.declared.value.SpeedValue.{SpeedValue}
+use Rattle.parameter.specs.FloatParameters as floats
+use Rattle.parameter.specs.SpeedParameters as speeds
+use Rattle.parameter.specs.declared.speed.SpeedParameter.{SpeedParameter}
 use Rattle.info.specs.ParametersIn.{speedDueOf, speedSourceOf}
 use Rattle.info.specs.declared.info.Info.{Info}
 use Rattle.clock.specs.OneClock.{positionOf, advanceOf, sumOf}
@@ -35,13 +36,13 @@ use Rattle.clock.specs.declared.Clock.{Clock}
 use Rattle.clock.specs.declared.Reported.{Reported}
 use Rattle.modulator.specs.Tweeners.{tweenerFaults}
 use Rattle.modulator.specs.Lfos.{builderFaults}
-use Rattle.modulators.specs.declared.Modulator.{Modulator}
-use Rattle.modulators.specs.declared.Modulator.the-variants.{OfTweener, OfLfo}
+use Rattle.modulator_table.specs.declared.Modulator.{Modulator}
+use Rattle.modulator_table.specs.declared.Modulator.the-variants.{OfTweener, OfLfo}
 use Rattle.commands.specs.declared.clock_command.ClockCommand.{ClockCommand}
 use Rattle.commands.specs.declared.clock_command.ClockCommand.the-variants as clocks
 use Rattle.commands.specs.declared.modulator_command.ModulatorCommand.{ModulatorCommand}
 use Rattle.commands.specs.declared.modulator_command.ModulatorCommand.the-variants as modulators
-use Rattle.frame.specs.Frames.{Try, went, stopped, noReports, seeing, watching, turned, clockTurn}
+use Rattle.station.specs.Frames.{Try, went, stopped, noReports, seeing, watching, turned, clockTurn}
 use Rattle.station.specs.Stations.{infoIn}
 use Rattle.station.specs.declared.Station.{Station}
 use Rattle.laws.specs.Calls.{Call, clock, modulator, frame, ofClock, ofModulator, keysOf, lives}
@@ -58,7 +59,7 @@ pub record Conditions : Type 0 where
   pub short : Bool
   pub beforeZero : Bool
 
--- ---- 7: "the id names no living entry, or a modulator of the other kind than the call acts on"
+-- ---- 7, of an id: RULES, no-such
 
 abbrev pub noClock : Station → ClockId → Bool
 noClock st id = not (lives ofClock st (id .slot) (id .generation))
@@ -73,13 +74,13 @@ isTweener (OfLfo l) = false
 abbrev pub isLfo : Modulator → Bool
 isLfo m = not (isTweener m)
 
--- none of the kind that f tells
+-- no living modulator of the kind that f tells
 abbrev pub noneOf : (Modulator → Bool) → Station → ModulatorId → Bool
 noneOf f st id = noModulator st id || not (readAt false (λ s. f (s .modulator)) (st .modulators .slots) (id .slot))
 
--- ---- 8: "every slot is occupied or retired"
+-- ---- 8, of an add: RULES, no-room
 
--- "A slot freed at generation 4,294,967,295 is retired"
+-- occupied, or used up: RULES, retired-slot
 abbrev pub takenOrRetired : Key → Bool
 takenOrRetired k = k .used || not (ltb (k .generation) 4294967295)
 
@@ -89,11 +90,11 @@ everyTaken (k ∷ ks) = takenOrRetired k && everyTaken ks
 
 -- ---- 9 and 10, of one clock in its turn by dt, with what it sees, as if dt were accepted
 
--- its speed, which is updated first
+-- its speed, which is updated first: RULES, clock-update
 abbrev pub spedIn : Info → Clock → Float → SpeedParameter
 spedIn info c dt = speeds.updateOf (c .speed) dt (speedDueOf info (c .speed)) (speedSourceOf info (c .speed)) .parameter
 
--- 9: "a ticking clock's advance exceeds 65,536"
+-- 9: RULES, too-far
 abbrev pub tooFarIn : Info → Clock → Float → Bool
 tooFarIn info c dt = c .ticking && lt (fin false 1 (pos 16)) (advanceOf (spedIn info c dt) dt)
 
@@ -101,11 +102,12 @@ abbrev pub isFull : Taken → Bool
 isFull (taken.At p) = false
 isFull taken.Full = true
 
--- 10: "ticks would pass 2^64 − 1"
+-- 10: RULES, ticks-full
 abbrev pub ticksFullIn : Info → Clock → Float → Bool
 ticksFullIn info c dt = c .ticking && isFull (takenOf (positionOf (c .state) .ticks) (sumOf (spedIn info c dt) (c .state) dt))
 
--- "In a frame, the lowest clock slot with 9 or 10 decides": of the clock in slot i, where it is occupied, the clocks standing so
+-- a frame is refused by the first slot in its order that is: of the clock in slot i, where it is occupied, the clocks
+-- standing so: RULES, frame-refused
 abbrev pub slotIn : (Info → Clock → Float → Bool) → Info → Float → List Key → ℕ → List Clock → Bool
 slotIn f info dt keys i cs = readAt false (λ k. cond (k .used) (readAt false (λ c. f (watching info cs) c dt) cs i) false) keys i
 
@@ -119,7 +121,7 @@ unfoldable pub lowestIn : (Info → Clock → Float → Bool) → Info → Float
 lowestIn f info dt keys zero i cs rs = false
 lowestIn f info dt keys (suc n) i cs rs = slotIn f info dt keys i cs || onward (lowestIn f info dt keys n (i + 1)) (clockTurn info dt keys i cs rs)
 
--- the clocks see every modulator's new value
+-- the clocks see every modulator's new value: RULES, frame-sight
 abbrev pub inFrame : (Info → Clock → Float → Bool) → Station → Float → Bool
 inFrame f st dt = lowestIn f (seeing (infoIn st) (turned (infoIn st) dt (st .modulators))) dt (st .clocks .keys) 16 0 (st .clocks .clocks) noReports
 
@@ -137,7 +139,7 @@ ofAdd f ks = record { missing = false; faults = f; noRoom = everyTaken ks; tooFa
 abbrev pub ofArguments : Faults → Conditions
 ofArguments f = ofId false f
 
--- "the present [..] speed" counts in a set; where there is no such clock, the arguments alone
+-- a set is judged by the present speed too (RULES, bad-reading); where there is no such clock, by the arguments alone
 abbrev pub setFaultsOn : Answer Clock → SpeedValue → Tween → Faults
 setFaultsOn (accepted c) v w = speeds.setFaults (c .speed) v w
 setFaultsOn (refused n) v w = bothFaults (speedValueFaults v) (tweenFaults w)
@@ -171,17 +173,17 @@ ofCall st (clock c) = ofClocks st c
 ofCall st (modulator c) = ofModulators st c
 ofCall st (frame dt) = ofFrame st dt
 
--- 11: "report buffer under 96 bytes"
+-- 11: RULES, short-buffer
 abbrev pub ofReport : Station → ClockId → List ℕ → Conditions
 ofReport st id out = record { missing = noClock st id; faults = noFaults; noRoom = false; tooFar = false; ticksFull = false; short = ltb (length out) 96; beforeZero = false }
 
 -- ---- a time that is moved
 
--- 10: "ticks would pass 2^64 − 1"
+-- 10: RULES, ticks-full
 abbrev pub past : ℕ → Bool
 past n = ltb (2 ^ 64 - 1) n
 
--- 10, of an amount that is added: "s = fraction + x; ticks + whole(s)"
+-- 10, of an amount that is added: RULES, add-double and ticks-full
 abbrev pub pastBy : ClockTime → Float → Bool
 pastBy t x = past (t .ticks + toUnsigned 64 (wholeOf (add binary64 (t .fraction) x)))
 
@@ -189,7 +191,8 @@ pastBy t x = past (t .ticks + toUnsigned 64 (wholeOf (add binary64 (t .fraction)
 abbrev pub ofTime : Faults → Bool → Bool → Conditions
 ofTime f u z = record { missing = false; faults = f; noRoom = false; tooFar = false; ticksFull = u; short = false; beforeZero = z }
 
--- 12: "whole ticks subtracted exceed the ticks held". "adding a negative amount is subtracting its opposite, and the reverse; −0.0 counts as negative": a double that is subtracted stops at 0, so 12 is not asked of it, and 10 is asked only of what is added
+-- 12 of whole ticks: RULES, before-zero. A double with its sign bit set is the opposite call (RULES, opposite); one
+-- that is subtracted stops at 0, so 12 is not asked of it, and 10 is asked only of what is added
 abbrev pub ofShift : ClockTime → Shift → Conditions
 ofShift t (addTicks n) = ofTime (fractionFaults (t .fraction)) (past (t .ticks + n)) false
 ofShift t (subTicks n) = ofTime (fractionFaults (t .fraction)) false (ltb (t .ticks) n)

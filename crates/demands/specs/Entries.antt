@@ -1,25 +1,27 @@
--- Demand 1: the calls that can be refused, on everything that a caller can lend, the number that each is given and what is handed back; each by the definition that the entry's own contract cites. Assumes nothing.
+-- Demand 1: the calls that can be refused, on everything that a caller can lend, the number that each is given and what
+-- is handed back; each by the definition that the entry's own contract cites. 01, "Refusal numbers". RULES,
+-- exact-refusals. Assumes nothing.
 use Prim.Native.Nat.{ℕ, _≤_}
 use mathlib.Core.List.{List}
 use lib.ListN.{length}
 use lib.Ieee.{Float}
 use Rattle.judge.specs.Answer.{Answer, accepted, refused}
-use Rattle.time.specs.Times.{addTicksOf, subTicksOf, addFloatOf, subFloatOf}
-use Rattle.clock_speed.specs.declared.ClockSpeed.{ClockSpeed}
-use Rattle.start_time.specs.declared.StartTime.{StartTime}
-use Rattle.start_time.specs.declared.When.{When}
-use Rattle.time.specs.declared.ClockId.{ClockId}
-use Rattle.time.specs.declared.ClockTime.{ClockTime}
-use Rattle.tween.specs.declared.Tween.{Tween}
-use Rattle.value.specs.declared.FloatValue.{FloatValue}
-use Rattle.value.specs.declared.Input.{Input}
-use Rattle.value.specs.declared.SpeedValue.{SpeedValue}
-use Rattle.float_parameter.specs.FloatParameters as floats
-use Rattle.speed_parameter.specs.SpeedParameters as speeds
-use Rattle.float_parameter.specs.declared.FloatParameter.{FloatParameter}
-use Rattle.speed_parameter.specs.declared.SpeedParameter.{SpeedParameter}
-use Rattle.info.specs.Infos.{whenOf, rawFloatIn, rawSpeedIn, startUpIn}
-use Rattle.info.specs.ParametersIn.{updateFloatIn, updateSpeedIn}
+use Rattle.times.specs.Times.{tryAddTicksOf, trySubTicksOf, tryAddFloatOf, trySubFloatOf}
+use Rattle.values.specs.declared.clock_speed.ClockSpeed.{ClockSpeed}
+use Rattle.times.specs.declared.start_time.StartTime.{StartTime}
+use Rattle.times.specs.declared.start_time.When.{When}
+use Rattle.times.specs.declared.time.ClockId.{ClockId}
+use Rattle.times.specs.declared.time.ClockTime.{ClockTime}
+use Rattle.times.specs.declared.tween.Tween.{Tween}
+use Rattle.values.specs.declared.value.FloatValue.{FloatValue}
+use Rattle.values.specs.declared.value.Input.{Input}
+use Rattle.values.specs.declared.value.SpeedValue.{SpeedValue}
+use Rattle.parameter.specs.FloatParameters as floats
+use Rattle.parameter.specs.SpeedParameters as speeds
+use Rattle.parameter.specs.declared.float.FloatParameter.{FloatParameter}
+use Rattle.parameter.specs.declared.speed.SpeedParameter.{SpeedParameter}
+use Rattle.info.specs.Infos.{tryWhenToStartOf, tryRawFloatIn, tryRawSpeedIn, tryUpdateStartIn}
+use Rattle.info.specs.ParametersIn.{tryUpdateFloatIn, tryUpdateSpeedIn}
 use Rattle.station.specs.Stations.{infoIn}
 use Rattle.station.specs.declared.Station.{Station}
 use Rattle.report.specs.Reports.{reportOf}
@@ -32,7 +34,8 @@ pub record Lent : Type 0 where
   pub speed : SpeedParameter
   pub buffer : List ℕ
 
--- All that is asked of a state: no key of a table is without an entry. A table is an array of 16 keys and an array of 16 entries, so every station that a caller can hold is so; nothing else of it matters
+-- All that is asked of a state: no key of a table is without an entry. A table is an array of 16 keys and an array of
+-- 16 entries, so every station that a caller can hold is so; nothing else of it matters.
 pub record Tables (st : Station) : Type 0 where
   pub clocks : length (st .clocks .keys) ≤ length (st .clocks .clocks)
   pub modulators : length (st .modulators .keys) ≤ length (st .modulators .slots)
@@ -45,18 +48,26 @@ pub data Shift : Type 0 where
   subFloat : Float → Shift
 
 abbrev pub shiftedOf : ClockTime → Shift → Answer ClockTime
-shiftedOf t (addTicks n) = addTicksOf t n
-shiftedOf t (subTicks n) = subTicksOf t n
-shiftedOf t (addFloat x) = addFloatOf t x
-shiftedOf t (subFloat x) = subFloatOf t x
+shiftedOf t (addTicks n) = tryAddTicksOf t n
+shiftedOf t (subTicks n) = trySubTicksOf t n
+shiftedOf t (addFloat x) = tryAddFloatOf t x
+shiftedOf t (subFloat x) = trySubFloatOf t x
 
--- On the station: a command on its clocks or its modulators, or a frame. On the caller's parameters: a set, an update that sees the station, and one that is told what it sees (`advance..`). A clock's report. What only looks at the station: whether a start has come (`when`), a value that is read, a start that
--- is updated. What is lent nothing: a parameter that is made, which is a new one, and a time that is moved, with TICKS_FULL, 10, and BEFORE_ZERO, 12, which is its alone.
--- Every public function of the core that can be refused is here, but for these:
---   the calls on a table of clocks or modulators by itself (`add_clock`, `set_tweener`, ..): a command runs the one of its name, by the same definition
---   the calls that are lent nothing and ask nothing but whether each argument is well (`as_seconds_per_tick` and its two like, `lerp_speed`, `lerp`, `secs`, `start_up`, `from_ticks_f64`, `compare`, `ease`, `wave`, `map_f`, `map_s`,
---   `map_output`, `value_output`): each is `judged` with its faults and an accepted answer, and `judged-exactly` of `Exactly` speaks of all such
---   a frame's parts on one clock (`take_ticks`, `update_clock`, `turn_clock`), whose 9 and 10 are here as the frame's
+-- On the station: a command on its clocks or its modulators, or a frame. On the caller's parameters: a set, an update
+-- that sees the station, and one that is told what it sees (`advanceFloat`, `advanceSpeed`). A clock's report. What
+-- only looks at the station: whether a start has come (`when`), a value that is read, a start that is updated. What is
+-- lent nothing: a parameter that is made, which is a new one, and a time that is moved, with TICKS_FULL, 10, and
+-- BEFORE_ZERO, 12, which is its alone.
+-- Every public function of the core that can be refused is here, with these exceptions:
+--   the calls on a table of clocks or modulators by itself (`add_clock`, `set_tweener`, ..): a command runs the one of
+--     its name, by the same definition;
+--   the calls that are lent nothing and ask nothing but whether each argument is well (`try_as_seconds_per_tick` and
+--     its two like, `try_interpolate_speed`, `try_interpolate`, `try_as_secs_f64`, `try_update` of a start time,
+--     `try_from_ticks_f64`, `try_partial_cmp`, `try_apply`, `try_wave_value`, `try_map_float`, `try_map_speed`,
+--     `try_map_output`, `try_value_output`): each is `judged` with its faults and an accepted answer, and
+--     `judged-exactly` of `Exactly` speaks of all such;
+--   the parts of entries (`more_ticks`, `take_ticks`, `update_clock`, `turn_clock`, `look`), whose 7, 9 and 10 are here
+--     as those of the frame, of a time that is moved, and of the commands and the report.
 pub data Entry : Type 0 where
   onStation : Call → Entry
   setFloat : FloatValue → Tween → Entry
@@ -78,22 +89,22 @@ abbrev pub numberTold : {A : Type 0} → Answer A → ℕ
 numberTold (accepted x) = 0
 numberTold (refused n) = n
 
--- "A refusal returns its number"; 0 is OK
+-- the number of the refusal, 0 where there is none: RULES, refusal and ok
 abbrev pub numberGiven : Lent → Entry → ℕ
 numberGiven l (onStation c) = numberOf (l .station) c
-numberGiven l (setFloat v w) = floats.changeOf (l .float) v w .refused
-numberGiven l (setSpeed v w) = speeds.changeOf (l .speed) v w .refused
-numberGiven l (updateFloat dt) = updateFloatIn (infoIn (l .station)) (l .float) dt .refused
-numberGiven l (updateSpeed dt) = updateSpeedIn (infoIn (l .station)) (l .speed) dt .refused
-numberGiven l (advanceFloat dt w i) = floats.advanceOf (l .float) dt w i .refused
-numberGiven l (advanceSpeed dt w i) = speeds.advanceOf (l .speed) dt w i .refused
+numberGiven l (setFloat v w) = floats.trySetOf (l .float) v w .refused
+numberGiven l (setSpeed v w) = speeds.trySetOf (l .speed) v w .refused
+numberGiven l (updateFloat dt) = tryUpdateFloatIn (infoIn (l .station)) (l .float) dt .refused
+numberGiven l (updateSpeed dt) = tryUpdateSpeedIn (infoIn (l .station)) (l .speed) dt .refused
+numberGiven l (advanceFloat dt w i) = floats.tryUpdateOf (l .float) dt w i .refused
+numberGiven l (advanceSpeed dt w i) = speeds.tryUpdateOf (l .speed) dt w i .refused
 numberGiven l (report id) = numberTold (reportOf (l .station .clocks) id (l .buffer) .answer)
-numberGiven l (when t) = numberTold (whenOf (infoIn (l .station)) t)
-numberGiven l (readFloat v) = numberTold (rawFloatIn (infoIn (l .station)) v)
-numberGiven l (readSpeed v) = numberTold (rawSpeedIn (infoIn (l .station)) v)
-numberGiven l (startIn s dt) = numberTold (startUpIn (infoIn (l .station)) s dt)
-numberGiven l (makeFloat v d) = numberTold (floats.makeOf v d)
-numberGiven l (makeSpeed v d) = numberTold (speeds.makeOf v d)
+numberGiven l (when t) = numberTold (tryWhenToStartOf (infoIn (l .station)) t)
+numberGiven l (readFloat v) = numberTold (tryRawFloatIn (infoIn (l .station)) v)
+numberGiven l (readSpeed v) = numberTold (tryRawSpeedIn (infoIn (l .station)) v)
+numberGiven l (startIn s dt) = numberTold (tryUpdateStartIn (infoIn (l .station)) s dt)
+numberGiven l (makeFloat v d) = numberTold (floats.tryNewOf v d)
+numberGiven l (makeSpeed v d) = numberTold (speeds.tryNewOf v d)
 numberGiven l (shift t s) = numberTold (shiftedOf t s)
 
 abbrev pub withStation : Lent → Station → Lent
@@ -111,12 +122,12 @@ withBuffer l out = record { station = l .station; float = l .float; speed = l .s
 -- what the caller has again behind the call, the state by value and the buffer at exit
 abbrev pub handedBack : Lent → Entry → Lent
 handedBack l (onStation c) = withStation l (after (l .station) c)
-handedBack l (setFloat v w) = withFloat l (floats.changeOf (l .float) v w .parameter)
-handedBack l (setSpeed v w) = withSpeed l (speeds.changeOf (l .speed) v w .parameter)
-handedBack l (updateFloat dt) = withFloat l (updateFloatIn (infoIn (l .station)) (l .float) dt .parameter)
-handedBack l (updateSpeed dt) = withSpeed l (updateSpeedIn (infoIn (l .station)) (l .speed) dt .parameter)
-handedBack l (advanceFloat dt w i) = withFloat l (floats.advanceOf (l .float) dt w i .parameter)
-handedBack l (advanceSpeed dt w i) = withSpeed l (speeds.advanceOf (l .speed) dt w i .parameter)
+handedBack l (setFloat v w) = withFloat l (floats.trySetOf (l .float) v w .parameter)
+handedBack l (setSpeed v w) = withSpeed l (speeds.trySetOf (l .speed) v w .parameter)
+handedBack l (updateFloat dt) = withFloat l (tryUpdateFloatIn (infoIn (l .station)) (l .float) dt .parameter)
+handedBack l (updateSpeed dt) = withSpeed l (tryUpdateSpeedIn (infoIn (l .station)) (l .speed) dt .parameter)
+handedBack l (advanceFloat dt w i) = withFloat l (floats.tryUpdateOf (l .float) dt w i .parameter)
+handedBack l (advanceSpeed dt w i) = withSpeed l (speeds.tryUpdateOf (l .speed) dt w i .parameter)
 handedBack l (report id) = withBuffer l (reportOf (l .station .clocks) id (l .buffer) .out)
 handedBack l (when t) = l
 handedBack l (readFloat v) = l

@@ -1,4 +1,5 @@
--- Demand 3: what a run is made of, and what is read off it. It is "stated over whole numbers, every double in it scaled by 2^1074". Assumes nothing.
+-- Demand 3: what a run is made of, and what is read off it, in whole numbers: a double stands as its size in units of
+-- 2^-1074. 01, "How far each statement binds". RULES, served. Assumes nothing.
 use Prim.Native.Nat.{ℕ, suc, _+_, _*_, _/_, _^_}
 use mathlib.Core.Bool.{Bool, false, not, _&&_, _||_, cond}
 use mathlib.Core.List.{List, [], _∷_, _++_}
@@ -6,14 +7,15 @@ use lib.Dec.{eqb, leb}
 use lib.Ieee.{Float, nan, inf, fin, up, down}
 use Rattle.judge.specs.Answer.{Answer, accepted, refused}
 use Rattle.judge.specs.Judge.{badDt}
-use Rattle.time.specs.declared.ClockId.{ClockId}
-use Rattle.time.specs.declared.ClockTime.{ClockTime}
-use Rattle.course.specs.Courses.{isNow}
+use Rattle.times.specs.declared.time.ClockId.{ClockId}
+use Rattle.times.specs.declared.time.ClockTime.{ClockTime}
+use Rattle.parameter.specs.Courses.{isNow}
 use Rattle.info.specs.Infos.{whenToStartOf}
 use Rattle.clock.specs.OneClock.{advanceOf}
-use Rattle.clocks.specs.ClockTables.{whereIs, readFound}
+use Rattle.ids.specs.Tables.{whereIs, readFound}
+use Rattle.clock_table.specs.ClockTables.{clockTable}
 use Rattle.clock.specs.declared.Clock.{Clock}
-use Rattle.frame.specs.Frames.{frameOf}
+use Rattle.station.specs.Frames.{frameOf}
 use Rattle.station.specs.Stations.{infoIn}
 use Rattle.station.specs.declared.Station.{Station}
 use Rattle.laws.specs.Calls.{Call, clock, modulator, frame, after}
@@ -33,9 +35,9 @@ afterEvents st (update dt ∷ es) = afterEvents st es
 
 -- the clock of an id, as it stands
 abbrev pub clockIn : Station → ClockId → Answer Clock
-clockIn st id = readFound (st .clocks) (whereIs (st .clocks) id) (λ c. c)
+clockIn st id = readFound clockTable (st .clocks) (whereIs clockTable (st .clocks) id) (λ c. c)
 
--- "each accepted update": a call that gives the clocks their turn, and is not refused
+-- an accepted frame: a call that gives the clocks their turn, and is not refused
 unfoldable pub moves : Station → Call → Bool
 moves st (clock c) = false
 moves st (modulator c) = false
@@ -49,11 +51,11 @@ scaled nan = 0
 scaled (inf s) = 0
 scaled (fin s m e) = m * up e * 2 ^ 1074 / down e
 
--- "ticks plus fraction"
+-- ticks and fraction as one number: RULES, exact-sum
 abbrev pub placeAt : ℕ → Float → ℕ
 placeAt n f = n * 2 ^ 1074 + scaled f
 
--- "the double speed times dt", by the speed that the clock has once it was updated
+-- how far the clock goes, by the speed that it has once it was updated: RULES, advance
 abbrev pub advanceBy : Answer Clock → Float → List Float
 advanceBy (accepted c) dt = advanceOf (c .speed) dt ∷ []
 advanceBy (refused n) dt = []
@@ -70,7 +72,7 @@ advancesOf id st [] = []
 advancesOf id st (call c ∷ es) = advanceIn id st c ++ advancesOf id (after st c) es
 advancesOf id st (update dt ∷ es) = advancesOf id st es
 
--- "the exact sum of the advances"
+-- the sum of advances, with nothing rounded: RULES, exact-sum
 unfoldable pub total : List Float → ℕ
 total [] = 0
 total (x ∷ xs) = scaled x + total xs
@@ -82,7 +84,8 @@ sumsFrom n (x ∷ xs) = (n + scaled x) ∷ sumsFrom (n + scaled x) xs
 
 -- ---- the parameter's updates
 
--- "updated once with an accepted dt after each and not before": an update is owed from an accepted frame on, until it comes; where none is owed, none but a refused one comes
+-- the order that is asked of a run: an update is owed from an accepted frame on, until it comes; where none is owed,
+-- none but a refused one comes: RULES, run
 unfoldable pub inOrder : Bool → Station → List Event → Bool
 inOrder owed st [] = not owed
 inOrder owed st (call c ∷ es) = not (owed && moves st c) && inOrder (owed || moves st c) (after st c) es
@@ -98,13 +101,13 @@ dtsOf [] = []
 dtsOf (call c ∷ es) = dtsOf es
 dtsOf (update dt ∷ es) = whereAccepted dt dt ++ dtsOf es
 
--- what the start test answers at each accepted update: "clock lives, is ticking and its time is at or past the target"
+-- what the start test answers at each accepted update: RULES, now
 unfoldable pub testsOf : ClockTime → Station → List Event → List Bool
 testsOf t st [] = []
 testsOf t st (call c ∷ es) = testsOf t (after st c) es
 testsOf t st (update dt ∷ es) = whereAccepted dt (isNow (whenToStartOf (infoIn st) t)) ++ testsOf t st es
 
--- ---- "the first"
+-- ---- the first of a list
 
 pub data Place : Type 0 where
   never : Place

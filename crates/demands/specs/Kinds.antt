@@ -1,26 +1,30 @@
--- Demand 3: the parameter that waits, of either kind; what its updates answer in a run, and what they would by the sums of the advances alone. Assumes nothing.
+-- Demand 3: the parameter that waits, of either kind; what its updates answer in a run, and what they would by the sums
+-- of the advances alone. RULES, begins. Assumes nothing.
 use Prim.Native.Nat.{ℕ, _+_}
 use mathlib.Core.Bool.{Bool, true, false, cond}
 use mathlib.Core.List.{List, [], _∷_, _++_}
 use lib.Dec.{eqb, leb}
 use lib.Ieee.{Float, binary64, add, le}
-use Rattle.duration.specs.Durations.{secondsOf}
-use Rattle.time.specs.declared.ClockId.{ClockId}
-use Rattle.start_time.specs.declared.When.{When}
-use Rattle.start_time.specs.declared.When.the-variants.{Now, Later}
-use Rattle.value.specs.declared.Input.{Input}
-use Rattle.float_parameter.specs.FloatParameters as floats
-use Rattle.speed_parameter.specs.SpeedParameters as speeds
-use Rattle.course.specs.declared.Course.{Course}
-use Rattle.float_parameter.specs.declared.FloatState.{FloatState}
-use Rattle.float_parameter.specs.declared.FloatState.the-variants as float
-use Rattle.float_parameter.specs.declared.FloatParameter.{FloatParameter}
-use Rattle.float_parameter.specs.declared.FloatAdvanced.{FloatAdvanced}
-use Rattle.speed_parameter.specs.declared.SpeedState.{SpeedState}
-use Rattle.speed_parameter.specs.declared.SpeedState.the-variants as speed
-use Rattle.speed_parameter.specs.declared.SpeedParameter.{SpeedParameter}
-use Rattle.speed_parameter.specs.declared.SpeedAdvanced.{SpeedAdvanced}
-use Rattle.info.specs.ParametersIn.{floatSourceOf, updateFloatIn, speedSourceOf, updateSpeedIn}
+use Rattle.times.specs.Durations.{secondsOf}
+use Rattle.times.specs.declared.time.ClockId.{ClockId}
+use Rattle.times.specs.declared.start_time.When.{When}
+use Rattle.times.specs.declared.start_time.When.the-variants.{Now, Later}
+use Rattle.times.specs.declared.tween.Tween.{Tween}
+use Rattle.values.specs.declared.value.FloatValue.{FloatValue}
+use Rattle.values.specs.declared.value.Input.{Input}
+use Rattle.values.specs.declared.value.SpeedValue.{SpeedValue}
+use Rattle.parameter.specs.FloatParameters as floats
+use Rattle.parameter.specs.SpeedParameters as speeds
+use Rattle.parameter.specs.declared.course.Course.{Course}
+use Rattle.parameter.specs.declared.float.FloatState.{FloatState}
+use Rattle.parameter.specs.declared.float.FloatState.the-variants as float
+use Rattle.parameter.specs.declared.float.FloatParameter.{FloatParameter}
+use Rattle.parameter.specs.declared.float.FloatAdvanced.{FloatAdvanced}
+use Rattle.parameter.specs.declared.speed.SpeedState.{SpeedState}
+use Rattle.parameter.specs.declared.speed.SpeedState.the-variants as speed
+use Rattle.parameter.specs.declared.speed.SpeedParameter.{SpeedParameter}
+use Rattle.parameter.specs.declared.speed.SpeedAdvanced.{SpeedAdvanced}
+use Rattle.info.specs.ParametersIn.{floatSourceOf, tryUpdateFloatIn, speedSourceOf, tryUpdateSpeedIn}
 use Rattle.info.specs.declared.info.Info.{Info}
 use Rattle.station.specs.Stations.{infoIn}
 use Rattle.station.specs.declared.Station.{Station}
@@ -32,16 +36,20 @@ pub data Progress : Type 0 where
   resting : Progress
   running : Course → Progress
 
--- what the two kinds share
+-- what the two kinds share: the laws on waiting are proved once, of any kind
 pub record Kind : Type 1 where
   pub Parameter : Type 0
+  pub Value : Type 0
   pub Answer : Type 0
+  -- a set's number, and the parameter that it hands back
+  pub setRefused : Parameter → Value → Tween → ℕ
+  pub setLeft : Parameter → Value → Tween → Parameter
   -- the caller's update, by what the station shows
   pub updateIn : Info → Parameter → Float → Answer
   -- the same, by what the start test answers and by what the parameter's modulator shows
   pub advance : Parameter → Float → When → Input → Answer
   pub source : Info → Parameter → Input
-  -- an answer's number, and the parameter that it hands back
+  -- an update's number, and the parameter that it hands back
   pub refused : Answer → ℕ
   pub left : Answer → Parameter
   pub progress : Parameter → Progress
@@ -53,9 +61,12 @@ floatProgress (float.Tweening t) = running (t .course)
 abbrev pub floatKind : Kind
 floatKind = record {
   Parameter = FloatParameter;
+  Value = FloatValue;
   Answer = FloatAdvanced;
-  updateIn = updateFloatIn;
-  advance = floats.advanceOf;
+  setRefused = λ p v w. floats.trySetOf p v w .refused;
+  setLeft = λ p v w. floats.trySetOf p v w .parameter;
+  updateIn = tryUpdateFloatIn;
+  advance = floats.tryUpdateOf;
   source = floatSourceOf;
   refused = λ r. r .refused;
   left = λ r. r .parameter;
@@ -69,9 +80,12 @@ speedProgress (speed.Tweening t) = running (t .course)
 abbrev pub speedKind : Kind
 speedKind = record {
   Parameter = SpeedParameter;
+  Value = SpeedValue;
   Answer = SpeedAdvanced;
-  updateIn = updateSpeedIn;
-  advance = speeds.advanceOf;
+  setRefused = λ p v w. speeds.trySetOf p v w .refused;
+  setLeft = λ p v w. speeds.trySetOf p v w .parameter;
+  updateIn = tryUpdateSpeedIn;
+  advance = speeds.tryUpdateOf;
   source = speedSourceOf;
   refused = λ r. r .refused;
   left = λ r. r .parameter;
@@ -98,7 +112,8 @@ module _ (k : Kind) where
   progressOf [] = []
   progressOf (r ∷ rs) = cond (eqb (k .refused r) 0) (k .progress (k .left r) ∷ []) [] ++ progressOf rs
 
--- "The first passing is the tween's beginning; each passing adds dt to its time, and on time ≥ duration it becomes Idle"
+-- what one test makes of a tween, written apart from the code's own step: one that passes adds dt to the time, and ends
+-- the tween where its duration is reached: RULES, step and end
 abbrev pub passed : Bool → Progress → Float → Progress
 passed b resting dt = resting
 passed false (running c) dt = running c

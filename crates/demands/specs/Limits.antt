@@ -1,49 +1,53 @@
--- Document 01's refusal table, the limits of 1 to 6, and of 10 and 12 for a time that is moved, as a single table with a single claim: each just inside and just outside, at each argument that takes it, the other arguments being well. Assumes nothing.
+-- The limits of the refusals 1 to 6, and of 10 and 12 for a time that is moved, as one table with one claim: each just
+-- inside and just outside, at each argument that takes it, the other arguments being well. 01, "Refusal numbers" and
+-- "Speeds". RULES, refusal-numbers. Assumes nothing.
 use Prim.Native.Nat.{ℕ}
 use mathlib.Core.Bool.{Bool, true, false}
 use mathlib.Core.List.{List, [], _∷_, _++_}
 use lib.Dec.{T, eqb}
 use lib.Ieee.{Float, binary64, ofBits, add, sub, mul, div, rem, neg, lt, le, eq, toUnsigned}
 use Rattle.judge.specs.Judge.{firstFault, dtFaults}
-use Rattle.clock_speed.specs.Speeds.{asSptOf, asTpsOf, asTpmOf, lerpSpeedOf}
-use Rattle.tweenable.specs.Tweenables.{lerpOf}
-use Rattle.duration.specs.Durations.{secsOf}
-use Rattle.start_time.specs.Starts.{startUpOf}
-use Rattle.time.specs.Times.{fromFloatOf, addTicksOf, subTicksOf, laterOf, earlierOf, addFloatOf, subFloatOf, compareOf}
-use Rattle.time.specs.declared.ClockId.{ClockId}
-use Rattle.time.specs.declared.ClockTime.{ClockTime}
-use Rattle.clock_speed.specs.declared.ClockSpeed.{ClockSpeed}
-use Rattle.clock_speed.specs.declared.ClockSpeed.the-variants.{SecondsPerTick, TicksPerSecond, TicksPerMinute}
-use Rattle.start_time.specs.declared.StartTime.{StartTime}
-use Rattle.start_time.specs.declared.StartTime.the-variants.{Immediate, Delayed, At}
-use Rattle.start_time.specs.declared.When.the-variants.{Later}
-use Rattle.tween.specs.Easings.{easeOf}
-use Rattle.value.specs.Values.{speedValueFaults, mapFOf, mapSOf, mapOutputOf, valueOutputOf}
-use Rattle.waveform.specs.Waves.{waveFaults, waveOf}
-use Rattle.tween.specs.declared.Easing.{Easing}
-use Rattle.tween.specs.declared.Easing.the-variants.{Linear, InPowi, OutPowi, InOutPowi}
-use Rattle.tween.specs.declared.Tween.{Tween}
-use Rattle.value.specs.declared.FloatMapping.{FloatMapping}
-use Rattle.value.specs.declared.SpeedMapping.{SpeedMapping}
-use Rattle.value.specs.declared.FloatValue.{FloatValue}
-use Rattle.value.specs.declared.FloatValue.the-variants as toFloat
-use Rattle.value.specs.declared.SpeedValue.{SpeedValue}
-use Rattle.value.specs.declared.SpeedValue.the-variants as toSpeed
-use Rattle.value.specs.declared.Op.the-variants as op
-use Rattle.value.specs.declared.ModulatorId.{ModulatorId}
+use Rattle.values.specs.Speeds.{trySptOf, tryTpsOf, tryTpmOf, tryInterpolateSpeedOf}
+use Rattle.values.specs.Tweenables.{tryInterpolateOf}
+use Rattle.times.specs.Durations.{trySecondsOf}
+use Rattle.times.specs.Starts.{tryUpdateOf}
+use Rattle.times.specs.Times.{tryFromFloatOf, tryAddTicksOf, trySubTicksOf, laterOf, earlierOf, tryAddFloatOf, trySubFloatOf, tryOrderOf}
+use Rattle.times.specs.declared.time.ClockId.{ClockId}
+use Rattle.times.specs.declared.time.ClockTime.{ClockTime}
+use Rattle.values.specs.declared.clock_speed.ClockSpeed.{ClockSpeed}
+use Rattle.values.specs.declared.clock_speed.ClockSpeed.the-variants.{SecondsPerTick, TicksPerSecond, TicksPerMinute}
+use Rattle.times.specs.declared.start_time.StartTime.{StartTime}
+use Rattle.times.specs.declared.start_time.StartTime.the-variants.{Immediate, Delayed, At}
+use Rattle.times.specs.declared.start_time.When.the-variants.{Later}
+use Rattle.times.specs.Easings.{tryApplyOf}
+use Rattle.values.specs.Values.{speedValueFaults, tryMapFloatOf, tryMapSpeedOf, tryMapOutputOf, tryValueOutputOf}
+use Rattle.waveform.specs.Waves.{waveFaults, tryWaveValueOf}
+use Rattle.times.specs.declared.tween.Easing.{Easing}
+use Rattle.times.specs.declared.tween.Easing.the-variants.{Linear, InPowi, OutPowi, InOutPowi}
+use Rattle.times.specs.declared.tween.Tween.{Tween}
+use Rattle.values.specs.declared.value.FloatMapping.{FloatMapping}
+use Rattle.values.specs.declared.value.SpeedMapping.{SpeedMapping}
+use Rattle.values.specs.declared.value.FloatValue.{FloatValue}
+use Rattle.values.specs.declared.value.FloatValue.the-variants as toFloat
+use Rattle.values.specs.declared.value.SpeedValue.{SpeedValue}
+use Rattle.values.specs.declared.value.SpeedValue.the-variants as toSpeed
+use Rattle.values.specs.declared.value.Op.the-variants as op
+use Rattle.values.specs.declared.value.ModulatorId.{ModulatorId}
 use Rattle.waveform.specs.declared.Waveform.{Waveform}
 use Rattle.waveform.specs.declared.Waveform.the-variants.{Triangle, Saw, Pulse}
-use Rattle.float_parameter.specs.FloatParameters as floats
-use Rattle.speed_parameter.specs.SpeedParameters as speeds
-use Rattle.speed_parameter.specs.declared.SpeedParameter.{SpeedParameter}
-use Rattle.info.specs.Infos.{whenOf, rawFloatIn, rawSpeedIn, startUpIn}
+use Rattle.parameter.specs.FloatParameters as floats
+use Rattle.parameter.specs.SpeedParameters as speeds
+use Rattle.parameter.specs.declared.speed.SpeedParameter.{SpeedParameter}
+use Rattle.info.specs.Infos.{tryWhenToStartOf, tryRawFloatIn, tryRawSpeedIn, tryUpdateStartIn}
 use Rattle.modulator.specs.Tweeners.{tweenerFaults}
 use Rattle.modulator.specs.Lfos.{builderFaults}
 use Rattle.modulator.specs.declared.lfo.LfoBuilder.{LfoBuilder}
 use Rattle.station.specs.Stations.{freshStation, infoIn}
 use Rattle.demands.specs.Entries.{numberTold}
 
--- The number that is given, and the number that 01 says. What is given is computed by the very definitions that the entries' statements use, so one that forgot an argument or moved a limit fails the table. Doubles are written by their bits.
+-- The number that is given, and the number that the rules say. What is given is computed by the very definitions that
+-- the entries' statements use, so one that forgot an argument or moved a limit fails the table. Doubles are written by
+-- their bits.
 pub record Limit : Type 0 where
   pub given : ℕ
   pub said : ℕ
@@ -116,7 +120,7 @@ present s = speeds.newOf (toSpeed.Fixed s) s
 
 -- ---- the limits of one argument: f is the number that a call gives to it, the others being well
 
--- 1: "dt is not finite, has its sign bit set (−0.0 too), or exceeds 60"
+-- 1: RULES, bad-dt
 abbrev dts : (Float → ℕ) → List Limit
 dts f =
     limit (f (double 0)) 0
@@ -128,7 +132,7 @@ dts f =
     ∷ limit (f infinite) 1
     ∷ []
 
--- 2: "NaN, infinite or over 2^40 in magnitude"
+-- 2: RULES, bad-float
 abbrev doubles : (Float → ℕ) → List Limit
 doubles f =
     limit (f (double 0x4270_0000_0000_0000)) 0
@@ -139,7 +143,7 @@ doubles f =
     ∷ limit (f infinite) 2
     ∷ []
 
--- 3: "in 2^-20..2^20"; z is the number at 0, of either sign
+-- 3, of one unit: RULES, speed-range; z is the number at 0, of either sign
 abbrev paces : ℕ → (Float → ℕ) → List Limit
 paces z f =
     limit (f (double 0)) z
@@ -153,18 +157,18 @@ paces z f =
     ∷ limit (f infinite) 3
     ∷ []
 
--- 3: "Seconds per tick lies in 2^-20..2^20; the others are 0 of either sign or in 2^-20..2^20"
+-- 3, of each unit: RULES, speed-range; 0 is no number of seconds per tick
 abbrev speedsAt : (ClockSpeed → ℕ) → List Limit
 speedsAt f = paces 3 (λ x. f (SecondsPerTick x)) ++ paces 0 (λ x. f (TicksPerSecond x)) ++ paces 0 (λ x. f (TicksPerMinute x))
 
--- 4: "power outside 1..16"
+-- 4: RULES, bad-ease
 abbrev powers : (ℕ → ℕ) → List Limit
 powers f = limit (f 0) 4 ∷ limit (f 1) 0 ∷ limit (f 16) 0 ∷ limit (f 17) 4 ∷ []
 
 abbrev easings : (Easing → ℕ) → List Limit
 easings f = limit (f Linear) 0 ∷ powers (λ n. f (InPowi n)) ++ powers (λ n. f (OutPowi n)) ++ powers (λ n. f (InOutPowi n))
 
--- 5: "both ends of an input range compare equal"; "Reversed ranges are legal"
+-- 5: RULES, bad-map; a range from high to low is well: RULES, reversed-range
 abbrev ranges : (Float → Float → ℕ) → List Limit
 ranges f =
     limit (f one one) 5
@@ -174,7 +178,7 @@ ranges f =
     ∷ limit (f three one) 0
     ∷ []
 
--- 6: "fraction below 0, −0.0, 1 or more, or NaN"
+-- 6, of a fraction: RULES, bad-time
 abbrev fractions : (Float → ℕ) → List Limit
 fractions f =
     limit (f (double 0)) 0
@@ -186,7 +190,7 @@ fractions f =
     ∷ limit (f infinite) 6
     ∷ []
 
--- 6: "duration or delay over 86,400,000,000,000 ns"
+-- 6, of a duration or a delay: RULES, bad-time
 abbrev spans : (ℕ → ℕ) → List Limit
 spans f = limit (f 86_400_000_000_000) 0 ∷ limit (f 86_400_000_000_001) 6 ∷ []
 
@@ -205,7 +209,7 @@ floatMaps f =
     ++ ranges (λ x y. f (floatMap x y one three Linear))
     ++ easings (λ e. f (floatMap one three one three e))
 
--- 3: "a mapping whose two ends differ in unit"
+-- 3, of two ends in two units: RULES, speed-mapping
 abbrev speedMaps : (SpeedMapping → ℕ) → List Limit
 speedMaps f =
     doubles (λ x. f (speedMap x three perSecond perSecond Linear))
@@ -234,13 +238,13 @@ abbrev alone : List Limit
 alone =
     dts (λ x. firstFault (dtFaults x))
     ++ speedValues (λ v. firstFault (speedValueFaults v))
-    ++ fractions (λ g. numberTold (whenOf (infoIn freshStation) (timeAt g)))
-    ++ floatValues (λ v. numberTold (rawFloatIn (infoIn freshStation) v))
-    ++ speedValues (λ v. numberTold (rawSpeedIn (infoIn freshStation) v))
-    ++ dts (λ x. numberTold (startUpIn (infoIn freshStation) Immediate x))
-    ++ starts (λ s. numberTold (startUpIn (infoIn freshStation) s one))
+    ++ fractions (λ g. numberTold (tryWhenToStartOf (infoIn freshStation) (timeAt g)))
+    ++ floatValues (λ v. numberTold (tryRawFloatIn (infoIn freshStation) v))
+    ++ speedValues (λ v. numberTold (tryRawSpeedIn (infoIn freshStation) v))
+    ++ dts (λ x. numberTold (tryUpdateStartIn (infoIn freshStation) Immediate x))
+    ++ starts (λ s. numberTold (tryUpdateStartIn (infoIn freshStation) s one))
 
--- "a set or a called interpolation where the present or start speed, read in the target's unit, is not finite or over 2^27"
+-- 3, of a speed that cannot be read in the target's unit: RULES, bad-reading
 abbrev readings : (ClockSpeed → ClockSpeed → ℕ) → List Limit
 readings f =
     limit (f (TicksPerSecond (double 0)) (SecondsPerTick one)) 3
@@ -282,88 +286,91 @@ modulators =
 -- a parameter that is made
 abbrev made : List Limit
 made =
-    floatValues (λ v. numberTold (floats.makeOf v one))
-    ++ doubles (λ x. numberTold (floats.makeOf fixed x))
-    ++ speedValues (λ v. numberTold (speeds.makeOf v perSecond))
-    ++ speedsAt (λ s. numberTold (speeds.makeOf (toSpeed.Fixed perSecond) s))
+    floatValues (λ v. numberTold (floats.tryNewOf v one))
+    ++ doubles (λ x. numberTold (floats.tryNewOf fixed x))
+    ++ speedValues (λ v. numberTold (speeds.tryNewOf v perSecond))
+    ++ speedsAt (λ s. numberTold (speeds.tryNewOf (toSpeed.Fixed perSecond) s))
 
--- speeds that are read or interpolated, doubles that are
+-- speeds that are read or interpolated, and doubles that are interpolated
 abbrev speedCalls : List Limit
 speedCalls =
-    speedsAt (λ s. numberTold (asSptOf s))
-    ++ speedsAt (λ s. numberTold (asTpsOf s))
-    ++ speedsAt (λ s. numberTold (asTpmOf s))
-    ++ speedsAt (λ s. numberTold (lerpSpeedOf s perSecond one))
-    ++ speedsAt (λ s. numberTold (lerpSpeedOf perSecond s one))
-    ++ doubles (λ x. numberTold (lerpSpeedOf perSecond perSecond x))
-    ++ readings (λ s t. numberTold (lerpSpeedOf s t one))
-    ++ doubles (λ x. numberTold (lerpOf x one one))
-    ++ doubles (λ x. numberTold (lerpOf one x one))
-    ++ doubles (λ x. numberTold (lerpOf one one x))
+    speedsAt (λ s. numberTold (trySptOf s))
+    ++ speedsAt (λ s. numberTold (tryTpsOf s))
+    ++ speedsAt (λ s. numberTold (tryTpmOf s))
+    ++ speedsAt (λ s. numberTold (tryInterpolateSpeedOf s perSecond one))
+    ++ speedsAt (λ s. numberTold (tryInterpolateSpeedOf perSecond s one))
+    ++ doubles (λ x. numberTold (tryInterpolateSpeedOf perSecond perSecond x))
+    ++ readings (λ s t. numberTold (tryInterpolateSpeedOf s t one))
+    ++ doubles (λ x. numberTold (tryInterpolateOf x one one))
+    ++ doubles (λ x. numberTold (tryInterpolateOf one x one))
+    ++ doubles (λ x. numberTold (tryInterpolateOf one one x))
 
--- 6: "`from_ticks_f64` with the sign bit set". 10: "ticks would pass 2^64 − 1". 12: "whole ticks subtracted exceed the ticks held"
+-- 6, of a double with its sign bit set that is to be a time: RULES, time-from-double. 10: RULES, ticks-full. 12: RULES,
+-- before-zero
 abbrev timeCalls : List Limit
 timeCalls =
-    limit (numberTold (fromFloatOf first (double 0))) 0
-    ∷ limit (numberTold (fromFloatOf first (double 0x8000_0000_0000_0000))) 6
-    ∷ limit (numberTold (fromFloatOf first (double 0xbff0_0000_0000_0000))) 6
-    ∷ limit (numberTold (fromFloatOf first (double 0x4270_0000_0000_0000))) 0
-    ∷ limit (numberTold (fromFloatOf first (double 0x4270_0000_0000_0001))) 2
-    ∷ limit (numberTold (fromFloatOf first aNan)) 2
-    ∷ limit (numberTold (addTicksOf (timeAt (double 0)) 18_446_744_073_709_551_610)) 0
-    ∷ limit (numberTold (addTicksOf (timeAt (double 0)) 18_446_744_073_709_551_611)) 10
-    ∷ limit (numberTold (subTicksOf (timeAt (double 0)) 5)) 0
-    ∷ limit (numberTold (subTicksOf (timeAt (double 0)) 6)) 12
-    ∷ limit (numberTold (addFloatOf (lastAt (double 0x3fd0_0000_0000_0000)) (double 0x3fe0_0000_0000_0000))) 0
-    ∷ limit (numberTold (addFloatOf (lastAt (double 0x3fe0_0000_0000_0000)) (double 0x3fe0_0000_0000_0000))) 10
-    ∷ limit (numberTold (addFloatOf (lastAt (double 0x3fe0_0000_0000_0000)) (double 0xbfe0_0000_0000_0000))) 0
-    ∷ limit (numberTold (subFloatOf (lastAt (double 0x3fd0_0000_0000_0000)) (double 0xbfe0_0000_0000_0000))) 0
-    ∷ limit (numberTold (subFloatOf (lastAt (double 0x3fe0_0000_0000_0000)) (double 0xbfe0_0000_0000_0000))) 10
-    ∷ limit (numberTold (subFloatOf (lastAt (double 0x3fe0_0000_0000_0000)) (double 0x3fe0_0000_0000_0000))) 0
-    ∷ limit (numberTold (subFloatOf (timeAt (double 0)) (double 0x4018_0000_0000_0000))) 0
-    ∷ fractions (λ g. numberTold (addTicksOf (timeAt g) 1))
-    ++ fractions (λ g. numberTold (subTicksOf (timeAt g) 1))
-    ++ fractions (λ g. numberTold (addFloatOf (timeAt g) one))
-    ++ doubles (λ x. numberTold (addFloatOf (timeAt (double 0)) x))
-    ++ fractions (λ g. numberTold (subFloatOf (timeAt g) one))
-    ++ doubles (λ x. numberTold (subFloatOf (timeAt (double 0)) x))
-    ++ fractions (λ g. numberTold (compareOf (timeAt g) (timeAt (double 0))))
-    ++ fractions (λ g. numberTold (compareOf (timeAt (double 0)) (timeAt g)))
-    ++ spans (λ n. numberTold (secsOf n))
-    ++ dts (λ x. numberTold (startUpOf Immediate x Later))
-    ++ starts (λ s. numberTold (startUpOf s one Later))
+    limit (numberTold (tryFromFloatOf first (double 0))) 0
+    ∷ limit (numberTold (tryFromFloatOf first (double 0x8000_0000_0000_0000))) 6
+    ∷ limit (numberTold (tryFromFloatOf first (double 0xbff0_0000_0000_0000))) 6
+    ∷ limit (numberTold (tryFromFloatOf first (double 0x4270_0000_0000_0000))) 0
+    ∷ limit (numberTold (tryFromFloatOf first (double 0x4270_0000_0000_0001))) 2
+    ∷ limit (numberTold (tryFromFloatOf first aNan)) 2
+    ∷ limit (numberTold (tryAddTicksOf (timeAt (double 0)) 18_446_744_073_709_551_610)) 0
+    ∷ limit (numberTold (tryAddTicksOf (timeAt (double 0)) 18_446_744_073_709_551_611)) 10
+    ∷ limit (numberTold (trySubTicksOf (timeAt (double 0)) 5)) 0
+    ∷ limit (numberTold (trySubTicksOf (timeAt (double 0)) 6)) 12
+    ∷ limit (numberTold (tryAddFloatOf (lastAt (double 0x3fd0_0000_0000_0000)) (double 0x3fe0_0000_0000_0000))) 0
+    ∷ limit (numberTold (tryAddFloatOf (lastAt (double 0x3fe0_0000_0000_0000)) (double 0x3fe0_0000_0000_0000))) 10
+    ∷ limit (numberTold (tryAddFloatOf (lastAt (double 0x3fe0_0000_0000_0000)) (double 0xbfe0_0000_0000_0000))) 0
+    ∷ limit (numberTold (trySubFloatOf (lastAt (double 0x3fd0_0000_0000_0000)) (double 0xbfe0_0000_0000_0000))) 0
+    ∷ limit (numberTold (trySubFloatOf (lastAt (double 0x3fe0_0000_0000_0000)) (double 0xbfe0_0000_0000_0000))) 10
+    ∷ limit (numberTold (trySubFloatOf (lastAt (double 0x3fe0_0000_0000_0000)) (double 0x3fe0_0000_0000_0000))) 0
+    ∷ limit (numberTold (trySubFloatOf (timeAt (double 0)) (double 0x4018_0000_0000_0000))) 0
+    ∷ fractions (λ g. numberTold (tryAddTicksOf (timeAt g) 1))
+    ++ fractions (λ g. numberTold (trySubTicksOf (timeAt g) 1))
+    ++ fractions (λ g. numberTold (tryAddFloatOf (timeAt g) one))
+    ++ doubles (λ x. numberTold (tryAddFloatOf (timeAt (double 0)) x))
+    ++ fractions (λ g. numberTold (trySubFloatOf (timeAt g) one))
+    ++ doubles (λ x. numberTold (trySubFloatOf (timeAt (double 0)) x))
+    ++ fractions (λ g. numberTold (tryOrderOf (timeAt g) (timeAt (double 0))))
+    ++ fractions (λ g. numberTold (tryOrderOf (timeAt (double 0)) (timeAt g)))
+    ++ spans (λ n. numberTold (trySecondsOf n))
+    ++ dts (λ x. numberTold (tryUpdateOf Immediate x Later))
+    ++ starts (λ s. numberTold (tryUpdateOf s one Later))
 
--- easings, waves and mappings; "an end made by adding, subtracting, multiplying, dividing, remainder or negation on a value or mapping"
+-- easings, waves and mappings; and output ends that an operation makes too large, or no number: RULES,
+-- output-arithmetic
 abbrev valueCalls : List Limit
 valueCalls =
-    easings (λ e. numberTold (easeOf e one))
-    ++ doubles (λ x. numberTold (easeOf Linear x))
-    ++ doubles (λ x. numberTold (waveOf (Pulse x) one))
-    ++ doubles (λ x. numberTold (waveOf Triangle x))
-    ++ floatMaps (λ m. numberTold (mapFOf m one))
-    ++ doubles (λ x. numberTold (mapFOf mapping x))
-    ++ speedMaps (λ m. numberTold (mapSOf m one))
-    ++ doubles (λ x. numberTold (mapSOf (speedMap one three perSecond perSecond Linear) x))
-    ++ floatMaps (λ m. numberTold (mapOutputOf m op.Neg))
-    ++ floatValues (λ v. numberTold (valueOutputOf v op.Neg))
-    ++ doubles (λ x. numberTold (valueOutputOf (toFloat.Fixed (double 0)) (op.Add x)))
-    ++ doubles (λ x. numberTold (valueOutputOf (toFloat.Fixed (double 0)) (op.Sub x)))
-    ++ doubles (λ x. numberTold (valueOutputOf (toFloat.Fixed (double 0)) (op.Mul x)))
-    ++ doubles (λ x. numberTold (valueOutputOf fixed (op.Div x)))
-    ++ doubles (λ x. numberTold (valueOutputOf fixed (op.Rem x)))
-    ++ limit (numberTold (valueOutputOf (toFloat.Fixed (double 0x4270_0000_0000_0000)) (op.Mul one))) 0
-    ∷ limit (numberTold (valueOutputOf (toFloat.Fixed (double 0x4270_0000_0000_0000)) (op.Add one))) 2
-    ∷ limit (numberTold (valueOutputOf fixed (op.Div (double 0)))) 2
-    ∷ limit (numberTold (valueOutputOf fixed (op.Rem (double 0)))) 2
-    ∷ limit (numberTold (mapOutputOf (floatMap one three (double 0x4270_0000_0000_0000) one Linear) (op.Add one))) 2
-    ∷ limit (numberTold (mapOutputOf (floatMap one three one (double 0x4270_0000_0000_0000) Linear) (op.Add one))) 2
-    ∷ limit (numberTold (mapOutputOf (floatMap one three one (double 0x4270_0000_0000_0000) Linear) (op.Sub one))) 0
+    easings (λ e. numberTold (tryApplyOf e one))
+    ++ doubles (λ x. numberTold (tryApplyOf Linear x))
+    ++ doubles (λ x. numberTold (tryWaveValueOf (Pulse x) one))
+    ++ doubles (λ x. numberTold (tryWaveValueOf Triangle x))
+    ++ floatMaps (λ m. numberTold (tryMapFloatOf m one))
+    ++ doubles (λ x. numberTold (tryMapFloatOf mapping x))
+    ++ speedMaps (λ m. numberTold (tryMapSpeedOf m one))
+    ++ doubles (λ x. numberTold (tryMapSpeedOf (speedMap one three perSecond perSecond Linear) x))
+    ++ floatMaps (λ m. numberTold (tryMapOutputOf m op.Neg))
+    ++ floatValues (λ v. numberTold (tryValueOutputOf v op.Neg))
+    ++ doubles (λ x. numberTold (tryValueOutputOf (toFloat.Fixed (double 0)) (op.Add x)))
+    ++ doubles (λ x. numberTold (tryValueOutputOf (toFloat.Fixed (double 0)) (op.Sub x)))
+    ++ doubles (λ x. numberTold (tryValueOutputOf (toFloat.Fixed (double 0)) (op.Mul x)))
+    ++ doubles (λ x. numberTold (tryValueOutputOf fixed (op.Div x)))
+    ++ doubles (λ x. numberTold (tryValueOutputOf fixed (op.Rem x)))
+    ++ limit (numberTold (tryValueOutputOf (toFloat.Fixed (double 0x4270_0000_0000_0000)) (op.Mul one))) 0
+    ∷ limit (numberTold (tryValueOutputOf (toFloat.Fixed (double 0x4270_0000_0000_0000)) (op.Add one))) 2
+    ∷ limit (numberTold (tryValueOutputOf fixed (op.Div (double 0)))) 2
+    ∷ limit (numberTold (tryValueOutputOf fixed (op.Rem (double 0)))) 2
+    ∷ limit (numberTold (tryMapOutputOf (floatMap one three (double 0x4270_0000_0000_0000) one Linear) (op.Add one))) 2
+    ∷ limit (numberTold (tryMapOutputOf (floatMap one three one (double 0x4270_0000_0000_0000) Linear) (op.Add one))) 2
+    ∷ limit (numberTold (tryMapOutputOf (floatMap one three one (double 0x4270_0000_0000_0000) Linear) (op.Sub one))) 0
     ∷ []
 
 pub table : List Limit
 table = alone ++ speedSets ++ floatSets ++ modulators ++ made ++ speedCalls ++ timeCalls ++ valueCalls
 
--- the single claim
+-- The one claim. It shows that no argument is forgotten and no limit is moved in the definitions of 1 to 6, which
+-- `exactly` takes as they are. Between the rows it says nothing: there the definitions are read against RULES.
 pub limits : T (all table)
-unfolding all table firstFault ofBits add sub mul div rem neg lt le eq toUnsigned lerpOf asSptOf asTpsOf asTpmOf lerpSpeedOf secsOf startUpOf fromFloatOf addTicksOf subTicksOf laterOf earlierOf addFloatOf subFloatOf compareOf easeOf mapFOf mapSOf mapOutputOf valueOutputOf waveOf whenOf rawFloatIn rawSpeedIn floats.makeOf speeds.makeOf
+unfolding all table firstFault ofBits add sub mul div rem neg lt le eq toUnsigned tryInterpolateOf trySptOf tryTpsOf tryTpmOf tryInterpolateSpeedOf trySecondsOf tryUpdateOf tryFromFloatOf tryAddTicksOf trySubTicksOf laterOf earlierOf tryAddFloatOf trySubFloatOf tryOrderOf tryApplyOf tryMapFloatOf tryMapSpeedOf tryMapOutputOf tryValueOutputOf tryWaveValueOf tryWhenToStartOf tryRawFloatIn tryRawSpeedIn floats.tryNewOf speeds.tryNewOf
 limits = tt

@@ -1,4 +1,5 @@
--- Demand 1: the order in which document 01's conditions are asked, and when one decides. Assumes nothing.
+-- Demand 1: the order in which the conditions are asked, and when one decides. 01, "Refusal numbers". RULES, order.
+-- Assumes nothing.
 use Prim.Native.Nat.{ℕ}
 use mathlib.Core.Path.{_≡_}
 use mathlib.Core.Bool.{Bool, true, false, _||_, cond}
@@ -7,7 +8,7 @@ use lib.Dec.{eqb}
 use Rattle.laws.specs.SoundStation.{All}
 use Rattle.demands.specs.Conditions.{Conditions}
 
--- "Order: the id acted on (7), then dt (1), then 2, 3, 4, 5, 6, then 8, 9, 10, 11, 12"
+-- 7, and then 1 to 12 without it: RULES, order
 abbrev pub order : List ℕ
 order = 7 ∷ 1 ∷ 2 ∷ 3 ∷ 4 ∷ 5 ∷ 6 ∷ 8 ∷ 9 ∷ 10 ∷ 11 ∷ 12 ∷ []
 
@@ -41,7 +42,7 @@ unfoldable pub among : ℕ → List ℕ → Bool
 among n [] = false
 among n (m ∷ ms) = eqb m n || among n ms
 
--- "Each is given exactly when its condition holds and nothing earlier in the order applies"
+-- a number decides where its own condition holds and none before it does: RULES, exact-refusals
 pub record Decides (c : Conditions) (n : ℕ) : Type 0 where
   pub own : holds c n ≡ true
   pub earlier : All (λ m. holds c m ≡ false) (before n order)

@@ -1,4 +1,5 @@
--- How long a number's text is: no longer than any count of digits that holds the number, and 16 digits for the bits of a double. Assumes nothing.
+-- How long a number's text is: no longer than any count of digits that holds the number, and 16 digits for the bits of
+-- a double. Assumes nothing.
 use Prim.Native.Nat.{ℕ, zero, suc, _-_, _/_, _%_, _^_, _<_, _≤_}
 use native.Mathlib.Decide.{decLt}
 use native.Mathlib.Omega.{arith}

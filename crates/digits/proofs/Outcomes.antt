@@ -1,4 +1,5 @@
--- Any two outcomes that a statement allows coincide, the result and the buffer: `Same` says it of the very clause that the check reads off the source (`Reads.Post`). Assumes nothing.
+-- Any two outcomes that a statement allows coincide, the result and the buffer: `Same` says it of the very clause that
+-- the check reads off the source (`Reads.Post`). RULES, one-outcome. Assumes nothing.
 use Prim.Native.Nat.{ℕ}
 use mathlib.Core.Path.{_≡_, sym, ap, _∙_}
 use mathlib.Core.List.{List}
@@ -24,7 +25,8 @@ use Rattle.digits.proofs.named.Kinds as named-kinds
 use Rattle.digits.proofs.end.Reads as end
 use Rattle.digits.proofs.end.Kinds as end-kinds
 
--- at the same arguments a, two outcomes that the clause allows are one: the results x and y, and what `out` reads off the parameters at exit, s and t
+-- at the same arguments a, two outcomes that the clause allows are one: the results x and y, and what `out` reads off
+-- the parameters at exit, s and t
 abbrev pub Same : (n : ℕ) (ps : List (PK n)) (r : RK n) → Out n ps r → ((κs : Lfts n) → AtExit (endedOf n ps r) κs → List ℕ) → Type 0
 Same n ps r Post out =
     (κs : Lfts n) (a : Dens κs ps) (x y : resT r κs .Denot) (s t : AtExit (endedOf n ps r) κs)

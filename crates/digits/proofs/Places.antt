@@ -1,4 +1,5 @@
--- The digits that `io` writes are a double's text and a number's: the fewest digits that hold a number are one count alone. Assumes nothing.
+-- The digits that `io` writes are a double's text and a number's: the fewest digits that hold a number are one count
+-- alone. Assumes nothing.
 use Prim.Native.Nat.{ℕ, zero, suc, _+_, _-_, _^_, _<_, _≤_}
 use native.Mathlib.Nat.{pow-suc, pow-le-pow-right}
 use native.Mathlib.Decide.{decLt}

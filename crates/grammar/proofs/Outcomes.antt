@@ -1,4 +1,5 @@
--- Any two outcomes that a statement allows coincide (`Rattle.doubles.proofs.Outcomes` has the law). Assumes nothing.
+-- Any two outcomes that a statement allows coincide (`Rattle.doubles.proofs.Outcomes` has the law). RULES, one-outcome.
+-- Assumes nothing.
 use Rattle.doubles.proofs.Outcomes.{One, equal}
 use Rattle.grammar.proofs.ended.Reads as ended
 use Rattle.grammar.proofs.ended.Kinds as ended-kinds

@@ -1,4 +1,5 @@
--- The grammar of docs/BENCH.md: what stands at a place of a line, and the place behind it. A line is the list of its bytes. Assumes nothing.
+-- The grammar of docs/BENCH.md: what stands at a place of a line, and the place behind it. A line is the list of its
+-- bytes. Assumes nothing.
 use Prim.Native.Nat.{ℕ, _+_}
 use mathlib.Core.Bool.{Bool, true, false, cond, not, _&&_}
 use mathlib.Core.List.{List, [], _∷_}
@@ -10,15 +11,15 @@ use Rattle.text.specs.Numbers.{hex16Of, decimalOf}
 use Rattle.text.specs.declared.Word.{Word}
 use Rattle.text.specs.declared.Number.{Number}
 use Rattle.text.specs.declared.Number.the-variants as number
-use Rattle.clock_speed.specs.declared.ClockSpeed.{ClockSpeed}
-use Rattle.clock_speed.specs.declared.ClockSpeed.the-variants.{SecondsPerTick, TicksPerSecond, TicksPerMinute}
-use Rattle.start_time.specs.declared.StartTime.the-variants.{Immediate, Delayed, At}
-use Rattle.time.specs.declared.ClockId.{ClockId}
-use Rattle.time.specs.declared.ClockTime.{ClockTime}
-use Rattle.tween.specs.declared.Easing.{Easing}
-use Rattle.tween.specs.declared.Easing.the-variants.{Linear, InPowi, OutPowi, InOutPowi}
-use Rattle.value.specs.declared.FloatMapping.{FloatMapping}
-use Rattle.value.specs.declared.FloatValue.the-variants.{Fixed, FromModulator}
+use Rattle.values.specs.declared.clock_speed.ClockSpeed.{ClockSpeed}
+use Rattle.values.specs.declared.clock_speed.ClockSpeed.the-variants.{SecondsPerTick, TicksPerSecond, TicksPerMinute}
+use Rattle.times.specs.declared.start_time.StartTime.the-variants.{Immediate, Delayed, At}
+use Rattle.times.specs.declared.time.ClockId.{ClockId}
+use Rattle.times.specs.declared.time.ClockTime.{ClockTime}
+use Rattle.times.specs.declared.tween.Easing.{Easing}
+use Rattle.times.specs.declared.tween.Easing.the-variants.{Linear, InPowi, OutPowi, InOutPowi}
+use Rattle.values.specs.declared.value.FloatMapping.{FloatMapping}
+use Rattle.values.specs.declared.value.FloatValue.the-variants.{Fixed, FromModulator}
 use Rattle.waveform.specs.declared.Waveform.the-variants.{Triangle, Saw, Pulse}
 use Rattle.grammar.specs.declared.Number32.{Number32}
 use Rattle.grammar.specs.declared.Number32.the-variants as number32
@@ -152,7 +153,8 @@ powerOf number32.No to = power.No
 unfoldable pub powerAt : List ℕ → ℕ → PowerAt
 powerAt s at = firstWord s at (λ w. powerOf (decimal32Of (partOf s w)) (w .to))
 
--- "ID: SLOT:GENERATION, each decimal, up to 4294967295": what stands in a word before its first colon, and what stands behind it, which is nothing where there is no colon
+-- "ID: SLOT:GENERATION, each decimal, up to 4294967295": what stands in a word before its first colon, and what stands
+-- behind it, which is nothing where there is no colon
 abbrev pub noColon : ℕ → Bool
 noColon b = not (eqb b 0x3a)
 
@@ -167,8 +169,9 @@ idIn p to = idOf (decimal32Of (take (run noColon p) p)) (decimal32Of (drop (run 
 unfoldable pub idAt : List ℕ → ℕ → IdAt
 idAt s at = firstWord s at (λ w. idIn (partOf s w) (w .to))
 
--- ---- one thing behind another: what is read, and the place behind it, go on to what is read next; where the one is none, the whole is none
+-- ---- one thing behind another
 
+-- what is read, and the place behind it, go on to what is read next; where the one is none, the whole is none
 module _ {A : Type 0} (none : A) where
   abbrev pub withFloat : FloatAt → (Float → ℕ → A) → A
   withFloat (float.Is x to) next = next x to

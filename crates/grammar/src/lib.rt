@@ -3,17 +3,17 @@
 ghost use mathlib.Core.Path.{_≡_};
 ghost use Rattle.text.specs.Words.{run};
 ghost use Rattle.grammar.specs.Grammar.{named, endedAt, floatAt, numberAt, decimal32Of, powerAt, noColon, idIn, idAt, speedAt, easeAt, timeAt, clockTimeAt, delayAt, startAt, floatMapAt, speedMapAt, floatValueAt, waveAt};
-use clock_speed::ClockSpeed;
-use start_time::StartTime;
 use text::Number;
 use text::Word;
-use time::ClockId;
-use time::ClockTime;
-use tween::Easing;
-use value::FloatMapping;
-use value::FloatValue;
-use value::ModulatorId;
-use value::SpeedMapping;
+use times::start_time::StartTime;
+use times::time::ClockId;
+use times::time::ClockTime;
+use times::tween::Easing;
+use values::clock_speed::ClockSpeed;
+use values::value::FloatMapping;
+use values::value::FloatValue;
+use values::value::ModulatorId;
+use values::value::SpeedMapping;
 use waveform::Waveform;
 
 pub enum FloatAt {

@@ -2,32 +2,32 @@
 use mathlib.Core.Bool.{Bool, true, false, _&&_, cond}
 use mathlib.Core.List.{List}
 use lib.Ieee.{Float}
-use Rattle.tables.specs.Keys.{findOf}
-use Rattle.tables.specs.Lists.{readAt}
-use Rattle.tables.specs.declared.Found.{Found}
-use Rattle.tables.specs.declared.Found.the-variants as found
+use Rattle.ids.specs.Keys.{findOf}
+use Rattle.ids.specs.Lists.{readAt}
+use Rattle.ids.specs.declared.Found.{Found}
+use Rattle.ids.specs.declared.Found.the-variants as found
 use Rattle.judge.specs.Answer.{Answer, accepted, refused}
 use Rattle.judge.specs.Judge.{fractionFaults, judged}
-use Rattle.start_time.specs.Starts.{startUpOf}
-use Rattle.time.specs.Times.{orderOf}
-use Rattle.time.specs.declared.ClockTime.{ClockTime}
-use Rattle.time.specs.declared.Order.{Order}
-use Rattle.time.specs.declared.Order.the-variants.{Less, Equal, Greater, Unordered}
-use Rattle.start_time.specs.declared.StartTime.{StartTime}
-use Rattle.start_time.specs.declared.StartTime.the-variants.{Immediate, Delayed, At}
-use Rattle.start_time.specs.declared.When.{When}
-use Rattle.start_time.specs.declared.When.the-variants.{Now, Later, Never}
-use Rattle.start_time.specs.declared.Waited.{Waited}
-use Rattle.value.specs.Values.{floatValueFaults, speedValueFaults, rawFloatOf, rawSpeedOf}
-use Rattle.value.specs.declared.ModulatorId.{ModulatorId}
-use Rattle.value.specs.declared.Input.{Input}
-use Rattle.value.specs.declared.Input.the-variants as input
-use Rattle.value.specs.declared.FloatValue.{FloatValue}
-use Rattle.value.specs.declared.FloatValue.the-variants as float
-use Rattle.value.specs.declared.SpeedValue.{SpeedValue}
-use Rattle.value.specs.declared.SpeedValue.the-variants as speed
-use Rattle.value.specs.declared.RawFloat.{RawFloat}
-use Rattle.value.specs.declared.RawSpeed.{RawSpeed}
+use Rattle.times.specs.Starts.{tryUpdateOf}
+use Rattle.times.specs.Times.{orderOf}
+use Rattle.times.specs.declared.time.ClockTime.{ClockTime}
+use Rattle.times.specs.declared.time.Order.{Order}
+use Rattle.times.specs.declared.time.Order.the-variants.{Less, Equal, Greater, Unordered}
+use Rattle.times.specs.declared.start_time.StartTime.{StartTime}
+use Rattle.times.specs.declared.start_time.StartTime.the-variants.{Immediate, Delayed, At}
+use Rattle.times.specs.declared.start_time.When.{When}
+use Rattle.times.specs.declared.start_time.When.the-variants.{Now, Later, Never}
+use Rattle.times.specs.declared.start_time.Waited.{Waited}
+use Rattle.values.specs.Values.{floatValueFaults, speedValueFaults, rawFloatOf, rawSpeedOf}
+use Rattle.values.specs.declared.value.ModulatorId.{ModulatorId}
+use Rattle.values.specs.declared.value.Input.{Input}
+use Rattle.values.specs.declared.value.Input.the-variants as input
+use Rattle.values.specs.declared.value.FloatValue.{FloatValue}
+use Rattle.values.specs.declared.value.FloatValue.the-variants as float
+use Rattle.values.specs.declared.value.SpeedValue.{SpeedValue}
+use Rattle.values.specs.declared.value.SpeedValue.the-variants as speed
+use Rattle.values.specs.declared.value.RawFloat.{RawFloat}
+use Rattle.values.specs.declared.value.RawSpeed.{RawSpeed}
 use Rattle.clock.specs.declared.ClockInfo.{ClockInfo}
 use Rattle.info.specs.declared.info.Info.{Info}
 use Rattle.info.specs.declared.info.Whened.{Whened}
@@ -39,7 +39,7 @@ use Rattle.info.specs.declared.info.SpeedRead.the-variants as speeds
 
 -- ---- clocks
 
--- "its time is at or past the target", ticks and fraction
+-- whether a clock has come to a time of it, by ticks and fraction: RULES, now
 abbrev pub atOrPast : Order → Bool
 atOrPast Less = false
 atOrPast Equal = true
@@ -49,11 +49,11 @@ atOrPast Unordered = false
 abbrev pub reachedOf : ClockInfo → ClockTime → Bool
 reachedOf c t = atOrPast (orderOf (record { clock = t .clock; ticks = c .ticks; fraction = c .fraction }) t)
 
--- "Now: clock lives, is ticking and its time is at or past the target. Later: lives otherwise."
+-- of a clock that lives, now where it ticks and has come there, else later: RULES, now and later
 abbrev pub dueOf : ClockInfo → ClockTime → When
 dueOf c t = cond (c .ticking && reachedOf c t) Now Later
 
--- "Never: does not live."
+-- never where no clock lives under that id: RULES, never
 abbrev pub whenFound : List ClockInfo → Found → ClockTime → When
 whenFound cs found.Nothing t = Never
 whenFound cs (found.At i) t = readAt Never (λ c. dueOf c t) cs i
@@ -63,6 +63,7 @@ whenToStartOf info t = whenFound (info .clocks) (findOf (info .«clock_keys») (
 
 -- ---- modulators
 
+-- nothing where no modulator lives under that id: RULES, seen-modulator
 abbrev pub valueFound : List Float → Found → Input
 valueFound xs found.Nothing = input.None
 valueFound xs (found.At i) = readAt input.None (λ x. input.Is x) xs i
@@ -85,28 +86,28 @@ abbrev pub speedInputOf : Info → SpeedValue → Input
 speedInputOf info (speed.Fixed s) = input.None
 speedInputOf info (speed.FromModulator id m) = modulatorValueOf info id
 
--- ---- the calls: "An id inside a link or a start time is never refused: it may name nothing"
+-- ---- the calls; an id inside what is asked about may name nothing: RULES, free-ids
 
-unfoldable pub whenOf : Info → ClockTime → Answer When
-whenOf info t = judged (fractionFaults (t .fraction)) (accepted (whenToStartOf info t))
+unfoldable pub tryWhenToStartOf : Info → ClockTime → Answer When
+tryWhenToStartOf info t = judged (fractionFaults (t .fraction)) (accepted (whenToStartOf info t))
 
 abbrev pub toldWhen : Whened → Answer When
 toldWhen (whened.Is w) = accepted w
 toldWhen (whened.Refused n) = refused n
 
-unfoldable pub rawFloatIn : Info → FloatValue → Answer RawFloat
-rawFloatIn info v = judged (floatValueFaults v) (accepted (rawFloatOf v (floatInputOf info v)))
+unfoldable pub tryRawFloatIn : Info → FloatValue → Answer RawFloat
+tryRawFloatIn info v = judged (floatValueFaults v) (accepted (rawFloatOf v (floatInputOf info v)))
 
 abbrev pub toldRawFloat : FloatRead → Answer RawFloat
 toldRawFloat (floats.Is x) = accepted x
 toldRawFloat (floats.Refused n) = refused n
 
-unfoldable pub rawSpeedIn : Info → SpeedValue → Answer RawSpeed
-rawSpeedIn info v = judged (speedValueFaults v) (accepted (rawSpeedOf v (speedInputOf info v)))
+unfoldable pub tryRawSpeedIn : Info → SpeedValue → Answer RawSpeed
+tryRawSpeedIn info v = judged (speedValueFaults v) (accepted (rawSpeedOf v (speedInputOf info v)))
 
 abbrev pub toldRawSpeed : SpeedRead → Answer RawSpeed
 toldRawSpeed (speeds.Is x) = accepted x
 toldRawSpeed (speeds.Refused n) = refused n
 
-abbrev pub startUpIn : Info → StartTime → Float → Answer Waited
-startUpIn info s dt = startUpOf s dt (startDueOf info s)
+abbrev pub tryUpdateStartIn : Info → StartTime → Float → Answer Waited
+tryUpdateStartIn info s dt = tryUpdateOf s dt (startDueOf info s)

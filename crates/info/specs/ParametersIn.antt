@@ -1,19 +1,20 @@
--- Document 01, "parameter.rs" and "Frame": "The caller then updates parameters", with the clocks and the modulators as they stand. Assumes nothing.
+-- Document 01, "parameter.rs" and "Frame": the update of a parameter that is the caller's own, with the clocks and the
+-- modulators as they stand: RULES, own-parameters. Assumes nothing.
 use lib.Ieee.{Float}
-use Rattle.start_time.specs.declared.When.{When}
-use Rattle.start_time.specs.declared.When.the-variants.{Later}
-use Rattle.value.specs.declared.Input.{Input}
-use Rattle.float_parameter.specs.FloatParameters as floats
-use Rattle.speed_parameter.specs.SpeedParameters as speeds
-use Rattle.course.specs.declared.Course.{Course}
-use Rattle.float_parameter.specs.declared.FloatState.{FloatState}
-use Rattle.float_parameter.specs.declared.FloatState.the-variants as float
-use Rattle.float_parameter.specs.declared.FloatParameter.{FloatParameter}
-use Rattle.float_parameter.specs.declared.FloatAdvanced.{FloatAdvanced}
-use Rattle.speed_parameter.specs.declared.SpeedState.{SpeedState}
-use Rattle.speed_parameter.specs.declared.SpeedState.the-variants as speed
-use Rattle.speed_parameter.specs.declared.SpeedParameter.{SpeedParameter}
-use Rattle.speed_parameter.specs.declared.SpeedAdvanced.{SpeedAdvanced}
+use Rattle.times.specs.declared.start_time.When.{When}
+use Rattle.times.specs.declared.start_time.When.the-variants.{Later}
+use Rattle.values.specs.declared.value.Input.{Input}
+use Rattle.parameter.specs.FloatParameters as floats
+use Rattle.parameter.specs.SpeedParameters as speeds
+use Rattle.parameter.specs.declared.course.Course.{Course}
+use Rattle.parameter.specs.declared.float.FloatState.{FloatState}
+use Rattle.parameter.specs.declared.float.FloatState.the-variants as float
+use Rattle.parameter.specs.declared.float.FloatParameter.{FloatParameter}
+use Rattle.parameter.specs.declared.float.FloatAdvanced.{FloatAdvanced}
+use Rattle.parameter.specs.declared.speed.SpeedState.{SpeedState}
+use Rattle.parameter.specs.declared.speed.SpeedState.the-variants as speed
+use Rattle.parameter.specs.declared.speed.SpeedParameter.{SpeedParameter}
+use Rattle.parameter.specs.declared.speed.SpeedAdvanced.{SpeedAdvanced}
 use Rattle.info.specs.Infos.{startDueOf, floatInputOf, speedInputOf}
 use Rattle.info.specs.declared.info.Info.{Info}
 
@@ -34,8 +35,8 @@ floatSourceIn info (float.Tweening t) = floatInputOf info (t .target)
 abbrev pub floatSourceOf : Info → FloatParameter → Input
 floatSourceOf info p = floatSourceIn info (p .state)
 
-unfoldable pub updateFloatIn : Info → FloatParameter → Float → FloatAdvanced
-updateFloatIn info p dt = floats.advanceOf p dt (floatDueOf info p) (floatSourceOf info p)
+unfoldable pub tryUpdateFloatIn : Info → FloatParameter → Float → FloatAdvanced
+tryUpdateFloatIn info p dt = floats.tryUpdateOf p dt (floatDueOf info p) (floatSourceOf info p)
 
 abbrev pub speedDueIn : Info → SpeedState → When
 speedDueIn info (speed.Idle v) = Later
@@ -51,5 +52,5 @@ speedSourceIn info (speed.Tweening t) = speedInputOf info (t .target)
 abbrev pub speedSourceOf : Info → SpeedParameter → Input
 speedSourceOf info p = speedSourceIn info (p .state)
 
-unfoldable pub updateSpeedIn : Info → SpeedParameter → Float → SpeedAdvanced
-updateSpeedIn info p dt = speeds.advanceOf p dt (speedDueOf info p) (speedSourceOf info p)
+unfoldable pub tryUpdateSpeedIn : Info → SpeedParameter → Float → SpeedAdvanced
+tryUpdateSpeedIn info p dt = speeds.tryUpdateOf p dt (speedDueOf info p) (speedSourceOf info p)

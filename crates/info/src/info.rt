@@ -1,30 +1,30 @@
 // What is seen of all clocks and modulators, and the questions that are put to it.
 ghost use mathlib.Core.Path.{_≡_};
-ghost use Rattle.start_time.specs.Starts.{toldStart};
-ghost use Rattle.info.specs.Infos.{reachedOf, dueOf, whenToStartOf, modulatorValueOf, startDueOf, floatInputOf, speedInputOf, whenOf, toldWhen, startUpIn, rawFloatIn, rawSpeedIn, toldRawFloat, toldRawSpeed};
+ghost use Rattle.times.specs.Starts.{toldStart};
+ghost use Rattle.info.specs.Infos.{reachedOf, dueOf, whenToStartOf, modulatorValueOf, startDueOf, floatInputOf, speedInputOf, tryWhenToStartOf, toldWhen, tryUpdateStartIn, tryRawFloatIn, tryRawSpeedIn, toldRawFloat, toldRawSpeed};
 use clock::ClockInfo;
+use ids::Found;
+use ids::Key;
+use ids::find;
 use judge::first_fault;
 use judge::fraction_faults;
-use start_time::StartTime;
-use start_time::StartUp;
-use start_time::When;
-use start_time::start_up;
-use tables::Found;
-use tables::Key;
-use tables::find;
-use time::ClockTime;
-use time::Order;
-use time::partial_cmp;
-use value::FloatValue;
-use value::Input;
-use value::ModulatorId;
-use value::RawFloat;
-use value::RawSpeed;
-use value::SpeedValue;
-use value::float_value_faults;
-use value::raw_float;
-use value::raw_speed;
-use value::speed_value_faults;
+use times::start_time::StartTime;
+use times::start_time::StartUp;
+use times::start_time::When;
+use times::start_time::try_update;
+use times::time::ClockTime;
+use times::time::Order;
+use times::time::partial_cmp;
+use values::value::FloatValue;
+use values::value::Input;
+use values::value::ModulatorId;
+use values::value::RawFloat;
+use values::value::RawSpeed;
+use values::value::SpeedValue;
+use values::value::float_value_faults;
+use values::value::raw_float;
+use values::value::raw_speed;
+use values::value::speed_value_faults;
 
 // A key and what is seen for each slot, of clocks and of modulators.
 pub struct Info {
@@ -135,8 +135,8 @@ pub fn speed_input(info: Info, v: SpeedValue) -> Input
     }
 }
 
-pub fn when(info: Info, t: ClockTime) -> Whened
-    ensures { λ r. ⌜ toldWhen r ≡ whenOf info t ⌝ }
+pub fn try_when_to_start(info: Info, t: ClockTime) -> Whened
+    ensures { λ r. ⌜ toldWhen r ≡ tryWhenToStartOf info t ⌝ }
 {
     let n = first_fault(fraction_faults(t.fraction));
     if n != 0 {
@@ -145,8 +145,8 @@ pub fn when(info: Info, t: ClockTime) -> Whened
     Whened::Is(when_to_start(info, t))
 }
 
-pub fn read_float(info: Info, v: FloatValue) -> FloatRead
-    ensures { λ r. ⌜ toldRawFloat r ≡ rawFloatIn info v ⌝ }
+pub fn try_raw_float_in(info: Info, v: FloatValue) -> FloatRead
+    ensures { λ r. ⌜ toldRawFloat r ≡ tryRawFloatIn info v ⌝ }
 {
     let n = first_fault(float_value_faults(v));
     if n != 0 {
@@ -155,8 +155,8 @@ pub fn read_float(info: Info, v: FloatValue) -> FloatRead
     FloatRead::Is(raw_float(v, float_input(info, v)))
 }
 
-pub fn read_speed(info: Info, v: SpeedValue) -> SpeedRead
-    ensures { λ r. ⌜ toldRawSpeed r ≡ rawSpeedIn info v ⌝ }
+pub fn try_raw_speed_in(info: Info, v: SpeedValue) -> SpeedRead
+    ensures { λ r. ⌜ toldRawSpeed r ≡ tryRawSpeedIn info v ⌝ }
 {
     let n = first_fault(speed_value_faults(v));
     if n != 0 {
@@ -166,8 +166,8 @@ pub fn read_speed(info: Info, v: SpeedValue) -> SpeedRead
 }
 
 // A start time after dt, with the clocks as they stand.
-pub fn start_in(info: Info, start: StartTime, dt: f64) -> StartUp
-    ensures { λ r. ⌜ toldStart r ≡ startUpIn info start dt ⌝ }
+pub fn try_update_start_in(info: Info, start: StartTime, dt: f64) -> StartUp
+    ensures { λ r. ⌜ toldStart r ≡ tryUpdateStartIn info start dt ⌝ }
 {
-    start_up(start, dt, start_due(info, start))
+    try_update(start, dt, start_due(info, start))
 }

@@ -1,4 +1,5 @@
--- A call leaves every living entry that it does not act on: a call on one clock every other clock and all modulators, and the reverse. Assumes nothing.
+-- A call leaves every living entry that it does not act on: a call on one clock every other clock and all modulators,
+-- and the reverse. RULES, apart. Assumes nothing.
 use Prim.Native.Nat.{ℕ}
 use mathlib.Core.Path.{_≡_, refl, sym, _∙_}
 use mathlib.Core.Bool.{Bool, true, false, _&&_, false≢true}
@@ -6,16 +7,14 @@ use mathlib.Core.List.{List}
 use lib.Seq.{getD-set-other}
 use lib.Dec.{eqb}
 use borrow.Author.Tests.{eqb-true}
-use Rattle.tables.specs.Keys.{freeOf, livesIn, usedAt, generationAt}
-use Rattle.tables.specs.declared.Key.{Key}
-use Rattle.tables.specs.declared.Room.the-variants as room
-use Rattle.tables.proofs.Names as names
-use Rattle.tables.proofs.Places.{lives-parts, gives}
-use Rattle.commands.specs.declared.clock_command.ClockCommand.{ClockCommand}
-use Rattle.commands.specs.declared.modulator_command.ModulatorCommand.{ModulatorCommand}
+use Rattle.ids.specs.Keys.{freeOf, livesIn, usedAt, generationAt}
+use Rattle.ids.specs.declared.Key.{Key}
+use Rattle.ids.specs.declared.Room.the-variants as room
+use Rattle.ids.proofs.Names as names
+use Rattle.ids.proofs.Places.{lives-parts, gives}
 use Rattle.station.specs.declared.Station.{Station}
-use Rattle.laws.specs.Calls.{Call, clock, modulator, after, Kind, keysOf, lives, Told, Target, targetOf, Touches, Stays, Untouched}
-use Rattle.laws.proofs.Deeds.{Deed, leaves, changes, removes, adds, turns, deed}
+use Rattle.laws.specs.Calls.{Call, after, Kind, keysOf, lives, Told, Target, targetOf, Touches, Stays, Untouched}
+use Rattle.laws.proofs.lemmas.Deeds.{Deed, leaves, changes, removes, adds, turns, deed}
 
 -- ---- slots
 
@@ -65,13 +64,3 @@ module _ (k : Kind) (st : Station) where
 
   pub apart : (c : Call) (j h : ℕ) → (Touches (targetOf c) k j h → ⊥) → lives k st j h ≡ true → Untouched k st (after st c) j h
   apart c j h n l = stays (deed k st c) j h n l
-
--- ---- tables
-
--- a call on the clocks leaves the modulators, whole
-pub clocks-alone : (st : Station) (c : ClockCommand) → after st (clock c) .modulators ≡ st .modulators
-clocks-alone st c = refl
-
--- and a call on the modulators the clocks
-pub modulators-alone : (st : Station) (c : ModulatorCommand) → after st (modulator c) .clocks ≡ st .clocks
-modulators-alone st c = refl

@@ -1,20 +1,7 @@
--- Laws that the crates above cite: `Accepted` on what a call without faults was given, `Underway` on tweens, `Speeds` and `Floats` on parameters of both kinds, `Signed` on mixes of doubles of both signs, `Waves` on phases and waves, `Clear` on fractions without a minus sign, `ClocksKept` and `ModulatorsKept` on the two tables, `Reached` on every station that calls can reach, `Refusals` on what a refusal leaves, `Lives` on ids over runs of calls, `Apart` on entries that a call does not act on, `Entries` on what stands under an id, `OneClock` and `OneTurn` on what a command and a frame make of one clock, `Sizes` on the 16 slots. `Every` and `Deeds` have what those from `ClocksKept` on share.
-pub mod Accepted
-pub mod Underway
-pub mod Speeds
-pub mod Signed
-pub mod Floats
-pub mod Waves
-pub mod Clear
-pub mod ClocksKept
-pub mod ModulatorsKept
-pub mod Reached
+-- The laws on calls, and what they rest on apart, in `lemmas`: `Refusals` on what a refusal leaves, `Lives` on ids over
+-- runs of calls, `Apart` on entries that a call does not act on, `Reached` on every station that calls can reach.
+pub mod lemmas
 pub mod Refusals
 pub mod Lives
 pub mod Apart
-pub mod Entries
-pub mod OneClock
-pub mod OneTurn
-pub mod Sizes
-mod Every
-mod Deeds
+pub mod Reached

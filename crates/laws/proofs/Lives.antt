@@ -1,4 +1,6 @@
--- The laws on names over runs of calls: an id once dead stays dead, no two adds of a run give the same id, and generation 0 never lives. Assumes nothing.
+-- The laws on names over runs of calls: an id once dead stays dead, no two adds of a run give the same id, and
+-- generation 0 never lives. `named-new`, `named-lives`, `two-names` and `zero-never` stand for a reader: no proof cites
+-- them. RULES, apart. Assumes nothing.
 use Prim.Native.Nat.{ℕ}
 use native.Mathlib.Omega.{arith}
 use mathlib.Core.Path.{_≡_, refl}
@@ -6,16 +8,17 @@ use mathlib.Core.Bool.{true, false}
 use mathlib.Core.List.{List, [], _∷_}
 use lib.ListN.{set}
 use lib.Ieee.{Float}
-use Rattle.tables.specs.Keys.{freeOf, takenAt, Spent, Numbered, Later, same, added, removed}
-use Rattle.tables.specs.declared.Key.{Key}
-use Rattle.tables.specs.declared.Room.the-variants as room
-use Rattle.tables.proofs.Names as names
-use Rattle.time.specs.declared.ClockId.{ClockId}
-use Rattle.value.specs.declared.ModulatorId.{ModulatorId}
-use Rattle.clocks.specs.ClockTables as clocks
-use Rattle.clocks.specs.declared.ClockDone.{ClockDone}
-use Rattle.modulators.specs.ModulatorTables as modulators
-use Rattle.modulators.specs.declared.ModulatorDone.{ModulatorDone}
+use Rattle.ids.specs.Keys.{freeOf, takenAt, Spent, Numbered, Later, same, added, removed}
+use Rattle.ids.specs.Tables.{freed, onFound, refusedCall}
+use Rattle.ids.specs.declared.Key.{Key}
+use Rattle.ids.specs.declared.Room.the-variants as room
+use Rattle.ids.proofs.Names as names
+use Rattle.times.specs.declared.time.ClockId.{ClockId}
+use Rattle.values.specs.declared.value.ModulatorId.{ModulatorId}
+use Rattle.clock_table.specs.ClockTables as clocks
+use Rattle.clock_table.specs.declared.ClockDone.{ClockDone}
+use Rattle.modulator_table.specs.ModulatorTables as modulators
+use Rattle.modulator_table.specs.declared.ModulatorDone.{ModulatorDone}
 use Rattle.commands.specs.ClockCommands as clockRuns
 use Rattle.commands.specs.ClockCommands.{runClockOf}
 use Rattle.commands.specs.ModulatorCommands as modulatorRuns
@@ -25,7 +28,7 @@ use Rattle.commands.specs.declared.modulator_command.ModulatorCommand.the-varia
 use Rattle.station.specs.Stations.{freshStation}
 use Rattle.station.specs.declared.Station.{Station}
 use Rattle.laws.specs.Calls.{Call, clock, modulator, frame, after, afterAll, Kind, ofClock, ofModulator, keysOf, lives, Told, named, clockTold, modulatorTold, told, numberIn, numberOf, Target, all}
-use Rattle.laws.proofs.Deeds.{Deed, leaves, changes, removes, adds, turns, deed, found-case, read-case}
+use Rattle.laws.proofs.lemmas.Deeds.{Deed, leaves, changes, removes, adds, turns, deed, found-case, read-case}
 
 -- ---- one call
 
@@ -87,15 +90,15 @@ module _ (st : Station) where
       (id : ClockId) → numberOf st (clock (clockCommand.Remove id)) ≡ 0 → Spent (keysOf ofClock (after st (clock (clockCommand.Remove id)))) (id .slot) (id .generation)
   unfolding runClockOf clocks.removeOf
   clock-removed id =
-      found-case (λ w. Ended (clocks.onFound (st .clocks) w (λ i c. clocks.freed (st .clocks) i (id .generation)))) (st .clocks .keys) (id .slot) (id .generation) refused (λ l.
-      read-case Ended (clocks.refusedCall (st .clocks) 7) (λ c. clocks.freed (st .clocks) (id .slot) (id .generation)) refused (λ c z.
+      found-case (λ w. Ended (onFound clocks.clockTable (st .clocks) w (λ i c. freed clocks.clockTable (st .clocks) i (id .generation)))) (st .clocks .keys) (id .slot) (id .generation) refused (λ l.
+      read-case Ended (refusedCall clocks.clockTable (st .clocks) 7) (λ c. freed clocks.clockTable (st .clocks) (id .slot) (id .generation)) refused (λ c z.
       names.remove-own-spent (st .clocks .keys) (id .slot) (id .generation) l)
       (st .clocks .clocks) (id .slot))
     where
       Ended : ClockDone → Type 0
       Ended r = numberIn (clockTold (clockRuns.doneAs r .answer)) ≡ 0 → Spent (r .table .keys) (id .slot) (id .generation)
 
-      refused : Ended (clocks.refusedCall (st .clocks) 7)
+      refused : Ended (refusedCall clocks.clockTable (st .clocks) 7)
       refused z = absurd (omega arith)
 
   pub modulator-removed :
@@ -103,15 +106,15 @@ module _ (st : Station) where
       → Spent (keysOf ofModulator (after st (modulator (modulatorCommand.Remove id)))) (id .slot) (id .generation)
   unfolding runModulatorOf modulators.removeOf
   modulator-removed id =
-      found-case (λ w. Ended (modulators.onFound (st .modulators) w (λ i m. modulators.freed (st .modulators) i (id .generation)))) (st .modulators .keys) (id .slot) (id .generation) refused (λ l.
-      read-case Ended (modulators.refusedCall (st .modulators) 7) (λ s. modulators.freed (st .modulators) (id .slot) (id .generation)) refused (λ s z.
+      found-case (λ w. Ended (modulators.onModulator (st .modulators) w (λ i m. freed modulators.modulatorTable (st .modulators) i (id .generation)))) (st .modulators .keys) (id .slot) (id .generation) refused (λ l.
+      read-case Ended (refusedCall modulators.modulatorTable (st .modulators) 7) (λ s. freed modulators.modulatorTable (st .modulators) (id .slot) (id .generation)) refused (λ s z.
       names.remove-own-spent (st .modulators .keys) (id .slot) (id .generation) l)
       (st .modulators .slots) (id .slot))
     where
       Ended : ModulatorDone → Type 0
       Ended r = numberIn (modulatorTold (modulatorRuns.doneAs r .answer)) ≡ 0 → Spent (r .table .keys) (id .slot) (id .generation)
 
-      refused : Ended (modulators.refusedCall (st .modulators) 7)
+      refused : Ended (refusedCall modulators.modulatorTable (st .modulators) 7)
       refused z = absurd (omega arith)
 
 -- ---- a run
@@ -126,13 +129,13 @@ module _ (k : Kind) (st : Station) where
   pub run-spent : (i g : ℕ) → Spent (keysOf k st) i g → (cs : List Call) → Spent (keysOf k (afterAll st cs)) i g
   run-spent i g s cs = names.later-spent (run-later k st cs) i g s
 
-  -- an id that lived and is dead never lives again
+  -- an id that lived and is dead never lives again: RULES, apart
   pub never-again :
       (i g : ℕ) → lives k st i g ≡ true → (cs : List Call) → lives k (afterAll st cs) i g ≡ false → (ds : List Call)
       → lives k (afterAll (afterAll st cs) ds) i g ≡ false
   never-again i g l cs d ds = names.once-dead i g l (run-later k st cs) d (run-later k (afterAll st cs) ds)
 
-  -- two accepted adds, whatever calls stand between, never give the same id
+  -- two accepted adds, whatever calls stand between, never give the same id: RULES, generation
   pub two-names :
       (c : Call) (i g : ℕ) → told st c ≡ named k i g → (cs : List Call) (d : Call) (j h : ℕ) → told (afterAll (after st c) cs) d ≡ named k j h → j ≡ i
       → h ≡ g → ⊥
@@ -151,6 +154,6 @@ module _ (k : Kind) (cs : List Call) where
   pub run-numbered : Numbered (keysOf k (afterAll freshStation cs))
   run-numbered = names.later-numbered (run-later k freshStation cs) (fresh-numbered k)
 
-  -- "the first is 1"
+  -- generations count from 1: RULES, generation
   pub zero-never : (i : ℕ) → lives k (afterAll freshStation cs) i 0 ≡ false
   zero-never i = names.zero-dead (keysOf k (afterAll freshStation cs)) run-numbered i

@@ -1,4 +1,8 @@
--- Every call keeps a sound station sound, frames and refused calls too, so every station that calls can reach is sound: no NaN or infinity in a speed or a value, no fraction outside 0..1 (`no-nan`); and a sound parameter that the caller updates there stays sound, so its value is finite (`float-value`, `speed-rate`). Assumes nothing.
+-- Every call keeps a sound station sound, frames and refused calls too, so every station that calls can reach is sound:
+-- no NaN or infinity in a speed or a value, no fraction outside 0..1 (`no-nan`); and a sound parameter that the caller
+-- updates there stays sound, so its value is finite (`float-value`, `speed-rate`, which stands for a reader). RULES,
+-- no-nan.
+-- Assumes nothing.
 use Prim.Native.Nat.{ℕ, zero, suc, _+_}
 use mathlib.Core.Path.{_≡_, refl}
 use mathlib.Core.Bool.{cond}
@@ -8,26 +12,26 @@ use lib.Dec.{T, eqb}
 use lib.Ieee.{Float, eq, le, lt, fits}
 use lib.Ieee.Scale.{finite}
 use Rattle.doubles.specs.Doubles.{zeroF}
-use Rattle.tables.specs.Lists.{readAt}
-use Rattle.tables.specs.declared.Key.{Key}
-use Rattle.tables.proofs.Names as names
+use Rattle.ids.specs.Lists.{readAt}
+use Rattle.ids.specs.declared.Key.{Key}
+use Rattle.ids.proofs.Names as names
 use Rattle.judge.specs.Judge.{noFaults, dtFaults, firstFault}
-use Rattle.clock_speed.specs.Speeds.{tpsOf}
-use Rattle.clock_speed.specs.declared.ClockSpeed.the-variants.{TicksPerSecond}
-use Rattle.value.specs.declared.FloatValue.{FloatValue}
-use Rattle.value.specs.declared.FloatValue.the-variants as float
-use Rattle.value.specs.declared.Input.the-variants as input
-use Rattle.value.specs.declared.ModulatorId.{ModulatorId}
-use Rattle.value.specs.declared.SpeedValue.{SpeedValue}
-use Rattle.value.specs.declared.SpeedValue.the-variants as speed
-use Rattle.float_parameter.specs.declared.FloatState.{FloatState}
-use Rattle.float_parameter.specs.declared.FloatState.the-variants as floatState
-use Rattle.float_parameter.specs.declared.FloatParameter.{FloatParameter}
-use Rattle.speed_parameter.specs.declared.SpeedState.{SpeedState}
-use Rattle.speed_parameter.specs.declared.SpeedState.the-variants as speedState
-use Rattle.speed_parameter.specs.declared.SpeedParameter.{SpeedParameter}
+use Rattle.values.specs.Speeds.{tpsOf}
+use Rattle.values.specs.declared.clock_speed.ClockSpeed.the-variants.{TicksPerSecond}
+use Rattle.values.specs.declared.value.FloatValue.{FloatValue}
+use Rattle.values.specs.declared.value.FloatValue.the-variants as float
+use Rattle.values.specs.declared.value.Input.the-variants as input
+use Rattle.values.specs.declared.value.ModulatorId.{ModulatorId}
+use Rattle.values.specs.declared.value.SpeedValue.{SpeedValue}
+use Rattle.values.specs.declared.value.SpeedValue.the-variants as speed
+use Rattle.parameter.specs.declared.float.FloatState.{FloatState}
+use Rattle.parameter.specs.declared.float.FloatState.the-variants as floatState
+use Rattle.parameter.specs.declared.float.FloatParameter.{FloatParameter}
+use Rattle.parameter.specs.declared.speed.SpeedState.{SpeedState}
+use Rattle.parameter.specs.declared.speed.SpeedState.the-variants as speedState
+use Rattle.parameter.specs.declared.speed.SpeedParameter.{SpeedParameter}
 use Rattle.info.specs.Infos.{valueFound, modulatorValueOf, floatInputOf, speedInputOf}
-use Rattle.info.specs.ParametersIn.{floatDueOf, floatSourceIn, floatSourceOf, updateFloatIn, speedDueOf, speedSourceIn, speedSourceOf, updateSpeedIn}
+use Rattle.info.specs.ParametersIn.{floatDueOf, floatSourceIn, floatSourceOf, tryUpdateFloatIn, speedDueOf, speedSourceIn, speedSourceOf, tryUpdateSpeedIn}
 use Rattle.info.specs.declared.info.Info.{Info}
 use Rattle.clock.specs.OneClock.{newClock, positionOf}
 use Rattle.clock.specs.declared.Clock.{Clock}
@@ -35,27 +39,27 @@ use Rattle.clock.specs.declared.Moved.{Moved}
 use Rattle.clock.specs.declared.Moved.the-variants.{Is, Refused}
 use Rattle.clock.specs.declared.Reported.{Reported}
 use Rattle.modulator.specs.Tweeners.{newTweener}
-use Rattle.modulators.specs.ModulatorTables.{valueOf, slotOf}
-use Rattle.modulators.specs.declared.Modulator.{Modulator}
-use Rattle.modulators.specs.declared.Modulator.the-variants.{OfTweener, OfLfo}
-use Rattle.modulators.specs.declared.Slot.{Slot}
-use Rattle.frame.specs.Frames.{Try, went, stopped, seeing, watching, modulatorTurn, modulatorTurns, turned, modulatorsTurned, placed, then, clockTurn, clockTurns, closed, clocksTurned, noReports, undoneOf, framed, frameOf}
-use Rattle.station.specs.Stations.{freshStation, slotValue, infoIn}
-use Rattle.turns.specs.Turns.{tweenerDue, sightOf, turnModulator, turnClock}
-use Rattle.frame.specs.declared.Framed.{Framed}
+use Rattle.modulator_table.specs.ModulatorTables.{valueOf, slotValue, slotOf}
+use Rattle.modulator_table.specs.declared.Modulator.{Modulator}
+use Rattle.modulator_table.specs.declared.Modulator.the-variants.{OfTweener, OfLfo}
+use Rattle.modulator_table.specs.declared.Slot.{Slot}
+use Rattle.station.specs.Frames.{Try, went, stopped, seeing, watching, modulatorTurn, modulatorTurns, turned, modulatorsTurned, placed, then, clockTurn, clockTurns, closed, clocksTurned, noReports, undoneOf, framed, frameOf}
+use Rattle.station.specs.Stations.{freshStation, infoIn}
+use Rattle.station.specs.Turns.{tweenerDue, sightOf, turnModulator, turnClock}
+use Rattle.station.specs.declared.frame.Framed.{Framed}
 use Rattle.station.specs.declared.Station.{Station}
 use Rattle.laws.specs.Calls.{Call, clock, modulator, frame, after, afterAll}
 use Rattle.laws.specs.Sound.{SoundInput, SoundFloat, SoundSpeed}
 use Rattle.laws.specs.SoundStation.{All, Number, SoundClock, SoundModulator, SoundSlot, SoundModulators, SoundStation, CallDoubles, Ticks, Shows}
-use Rattle.laws.proofs.Accepted.{judged-case}
-use Rattle.laws.proofs.Clear.{fraction-range}
-use Rattle.laws.proofs.ClocksKept.{SoundMoved, new-clock, update-clock, run-clock-sound}
-use Rattle.laws.proofs.Deeds.{cond-case, found-case, read-case, turnedTo}
-use Rattle.laws.proofs.Every.{all-set, all-replicate, all-map, all-weaker, all-read}
-use Rattle.laws.proofs.Floats as floats
-use Rattle.laws.proofs.ModulatorsKept.{new-tweener, update-tweener, update-lfo, run-modulator-sound}
-use Rattle.laws.proofs.Signed.{within-finite}
-use Rattle.laws.proofs.Speeds as speeds
+use Rattle.laws.proofs.lemmas.Accepted.{judged-case}
+use Rattle.laws.proofs.lemmas.Clear.{fraction-range}
+use Rattle.laws.proofs.lemmas.ClocksKept.{SoundMoved, new-clock, update-clock, run-clock-sound}
+use Rattle.laws.proofs.lemmas.Deeds.{cond-case, found-case, read-case, turnedTo}
+use Rattle.laws.proofs.lemmas.Every.{all-set, all-replicate, all-map, all-weaker, all-read}
+use Rattle.laws.proofs.lemmas.Floats as floats
+use Rattle.laws.proofs.lemmas.ModulatorsKept.{new-tweener, update-tweener, update-lfo, run-modulator-sound}
+use Rattle.laws.proofs.lemmas.Signed.{within-finite}
+use Rattle.laws.proofs.lemmas.Speeds as speeds
 
 -- ---- what is seen
 
@@ -202,27 +206,28 @@ run-sound st s (c ∷ cs) F = run-sound (after st c) (after-sound st s c (F .0))
 
 -- ---- the caller's parameters
 
--- "The caller then updates parameters", with what a sound station shows; a refused dt leaves a parameter as it is
+-- the caller's own parameters, by what a sound station shows: RULES, own-parameters; a refused dt leaves a parameter as
+-- it is
 module _ (st : Station) (s : SoundStation st) (dt : Float) where
   shown : All Number (infoIn st .values)
   unfolding infoIn
   shown = all-map SoundSlot Number slotValue slot-number (st .modulators .slots) (s .modulators .entries)
 
   module _ (p : FloatParameter) (k : SoundFloat p) where
-    pub float-sound : SoundFloat (updateFloatIn (infoIn st) p dt .parameter)
-    unfolding updateFloatIn
+    pub float-sound : SoundFloat (tryUpdateFloatIn (infoIn st) p dt .parameter)
+    unfolding tryUpdateFloatIn
     float-sound = floats.advance-sound p k dt (floatDueOf (infoIn st) p) (floatSourceOf (infoIn st) p) (float-seen (infoIn st) shown (p .state))
 
-    pub float-value : T (finite (updateFloatIn (infoIn st) p dt .parameter .raw))
-    float-value = floats.sound-value (updateFloatIn (infoIn st) p dt .parameter) float-sound
+    pub float-value : T (finite (tryUpdateFloatIn (infoIn st) p dt .parameter .raw))
+    float-value = floats.sound-value (tryUpdateFloatIn (infoIn st) p dt .parameter) float-sound
 
   module _ (p : SpeedParameter) (k : SoundSpeed p) where
-    pub speed-sound : SoundSpeed (updateSpeedIn (infoIn st) p dt .parameter)
-    unfolding updateSpeedIn
+    pub speed-sound : SoundSpeed (tryUpdateSpeedIn (infoIn st) p dt .parameter)
+    unfolding tryUpdateSpeedIn
     speed-sound = speeds.advance-sound p k dt (speedDueOf (infoIn st) p) (speedSourceOf (infoIn st) p) (speed-seen (infoIn st) shown (p .state))
 
-    pub speed-rate : T (finite (tpsOf (updateSpeedIn (infoIn st) p dt .parameter .raw))) × T (le zeroF (tpsOf (updateSpeedIn (infoIn st) p dt .parameter .raw)))
-    speed-rate = speeds.sound-rate (updateSpeedIn (infoIn st) p dt .parameter) speed-sound
+    pub speed-rate : T (finite (tpsOf (tryUpdateSpeedIn (infoIn st) p dt .parameter .raw))) × T (le zeroF (tpsOf (tryUpdateSpeedIn (infoIn st) p dt .parameter .raw)))
+    speed-rate = speeds.sound-rate (tryUpdateSpeedIn (infoIn st) p dt .parameter) speed-sound
 
 -- ---- from the beginning
 

@@ -1,4 +1,5 @@
--- "A refusal returns its number, and the state, value or buffer given in comes back unchanged": of each call on a station, and of each change and advance of a parameter. Assumes nothing.
+-- A refused call leaves what it was given as it was: of each call on a station, and of each change and advance of a
+-- parameter. 01, "Refusal numbers"; RULES, refusal. Assumes nothing.
 use Prim.Native.Nat.{ℕ}
 use native.Mathlib.Omega.{arith}
 use mathlib.Core.Path.{_≡_, refl}
@@ -6,26 +7,26 @@ use mathlib.Core.Bool.{Bool, true, false, cond}
 use mathlib.Core.List.{List}
 use lib.Dec.{eqb}
 use lib.Ieee.{Float}
-use Rattle.tables.specs.declared.Key.{Key}
+use Rattle.ids.specs.declared.Key.{Key}
 use Rattle.judge.specs.Judge.{dtFaults, firstFault}
-use Rattle.start_time.specs.declared.When.{When}
-use Rattle.tween.specs.declared.Tween.{Tween}
-use Rattle.value.specs.declared.FloatValue.{FloatValue}
-use Rattle.value.specs.declared.Input.{Input}
-use Rattle.value.specs.declared.SpeedValue.{SpeedValue}
-use Rattle.float_parameter.specs.FloatParameters as floats
-use Rattle.speed_parameter.specs.SpeedParameters as speeds
-use Rattle.float_parameter.specs.declared.FloatAdvanced.{FloatAdvanced}
-use Rattle.float_parameter.specs.declared.FloatParameter.{FloatParameter}
-use Rattle.float_parameter.specs.declared.FloatSet.{FloatSet}
-use Rattle.speed_parameter.specs.declared.SpeedAdvanced.{SpeedAdvanced}
-use Rattle.speed_parameter.specs.declared.SpeedParameter.{SpeedParameter}
-use Rattle.speed_parameter.specs.declared.SpeedSet.{SpeedSet}
+use Rattle.times.specs.declared.start_time.When.{When}
+use Rattle.times.specs.declared.tween.Tween.{Tween}
+use Rattle.values.specs.declared.value.FloatValue.{FloatValue}
+use Rattle.values.specs.declared.value.Input.{Input}
+use Rattle.values.specs.declared.value.SpeedValue.{SpeedValue}
+use Rattle.parameter.specs.FloatParameters as floats
+use Rattle.parameter.specs.SpeedParameters as speeds
+use Rattle.parameter.specs.declared.float.FloatAdvanced.{FloatAdvanced}
+use Rattle.parameter.specs.declared.float.FloatParameter.{FloatParameter}
+use Rattle.parameter.specs.declared.float.FloatSet.{FloatSet}
+use Rattle.parameter.specs.declared.speed.SpeedAdvanced.{SpeedAdvanced}
+use Rattle.parameter.specs.declared.speed.SpeedParameter.{SpeedParameter}
+use Rattle.parameter.specs.declared.speed.SpeedSet.{SpeedSet}
 use Rattle.clock.specs.declared.Clock.{Clock}
-use Rattle.modulators.specs.declared.Slot.{Slot}
+use Rattle.modulator_table.specs.declared.Slot.{Slot}
 use Rattle.station.specs.declared.Station.{Station}
 use Rattle.laws.specs.Calls.{Call, after, Kind, ofClock, ofModulator, keysOf, entriesOf, Told, refusal, named, done, told, numberIn, numberOf, Target}
-use Rattle.laws.proofs.Deeds.{Deed, leaves, changes, removes, adds, turns, deed}
+use Rattle.laws.proofs.lemmas.Deeds.{Deed, leaves, changes, removes, adds, turns, deed}
 
 -- ---- calls on a station
 
@@ -68,19 +69,19 @@ kept number part p x y h e true n = absurd (n h)
 kept number part p x y h e false n = e
 
 module _ (p : FloatParameter) where
-  pub float-change-leaves : (v : FloatValue) (t : Tween) → (floats.changeOf p v t .refused ≡ 0 → ⊥) → floats.changeOf p v t .parameter ≡ p
-  unfolding floats.changeOf
+  pub float-change-leaves : (v : FloatValue) (t : Tween) → (floats.trySetOf p v t .refused ≡ 0 → ⊥) → floats.trySetOf p v t .parameter ≡ p
+  unfolding floats.trySetOf
   float-change-leaves v t n = kept (λ (r : FloatSet). r .refused) (λ (r : FloatSet). r .parameter) p _ _ refl refl (eqb (firstFault (floats.setFaults p v t)) 0) n
 
-  pub float-advance-leaves : (dt : Float) (w : When) (i : Input) → (floats.advanceOf p dt w i .refused ≡ 0 → ⊥) → floats.advanceOf p dt w i .parameter ≡ p
-  unfolding floats.advanceOf
+  pub float-advance-leaves : (dt : Float) (w : When) (i : Input) → (floats.tryUpdateOf p dt w i .refused ≡ 0 → ⊥) → floats.tryUpdateOf p dt w i .parameter ≡ p
+  unfolding floats.tryUpdateOf
   float-advance-leaves dt w i n = kept (λ (r : FloatAdvanced). r .refused) (λ (r : FloatAdvanced). r .parameter) p _ _ refl refl (eqb (firstFault (dtFaults dt)) 0) n
 
 module _ (p : SpeedParameter) where
-  pub speed-change-leaves : (v : SpeedValue) (t : Tween) → (speeds.changeOf p v t .refused ≡ 0 → ⊥) → speeds.changeOf p v t .parameter ≡ p
-  unfolding speeds.changeOf
+  pub speed-change-leaves : (v : SpeedValue) (t : Tween) → (speeds.trySetOf p v t .refused ≡ 0 → ⊥) → speeds.trySetOf p v t .parameter ≡ p
+  unfolding speeds.trySetOf
   speed-change-leaves v t n = kept (λ (r : SpeedSet). r .refused) (λ (r : SpeedSet). r .parameter) p _ _ refl refl (eqb (firstFault (speeds.setFaults p v t)) 0) n
 
-  pub speed-advance-leaves : (dt : Float) (w : When) (i : Input) → (speeds.advanceOf p dt w i .refused ≡ 0 → ⊥) → speeds.advanceOf p dt w i .parameter ≡ p
-  unfolding speeds.advanceOf
+  pub speed-advance-leaves : (dt : Float) (w : When) (i : Input) → (speeds.tryUpdateOf p dt w i .refused ≡ 0 → ⊥) → speeds.tryUpdateOf p dt w i .parameter ≡ p
+  unfolding speeds.tryUpdateOf
   speed-advance-leaves dt w i n = kept (λ (r : SpeedAdvanced). r .refused) (λ (r : SpeedAdvanced). r .parameter) p _ _ refl refl (eqb (firstFault (dtFaults dt)) 0) n

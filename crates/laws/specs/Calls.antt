@@ -1,4 +1,5 @@
--- A station's calls as values: what a call leaves, what its answer tells, which entry it acts on (document 01, "Refusal numbers", "Names that cannot be shared", "Frame"). Assumes nothing.
+-- A station's calls as values: what a call leaves, what its answer tells, which entry it acts on. 01, "Refusal
+-- numbers", "Names that cannot be shared", "Frame". Assumes nothing.
 use Prim.Native.Nat.{ℕ}
 use mathlib.Core.Path.{_≡_}
 use mathlib.Core.Bool.{Bool, true, cond}
@@ -6,10 +7,10 @@ use mathlib.Core.List.{List, [], _∷_}
 use lib.ListN.{getD}
 use lib.Dec.{eqb}
 use lib.Ieee.{Float}
-use Rattle.tables.specs.Keys.{livesIn}
-use Rattle.tables.specs.declared.Key.{Key}
+use Rattle.ids.specs.Keys.{livesIn}
+use Rattle.ids.specs.declared.Key.{Key}
 use Rattle.clock.specs.declared.Clock.{Clock}
-use Rattle.modulators.specs.declared.Slot.{Slot}
+use Rattle.modulator_table.specs.declared.Slot.{Slot}
 use Rattle.commands.specs.ClockCommands.{runClockOf}
 use Rattle.commands.specs.ModulatorCommands.{runModulatorOf}
 use Rattle.commands.specs.declared.clock_command.ClockCommand.{ClockCommand}
@@ -20,7 +21,7 @@ use Rattle.commands.specs.declared.modulator_command.ModulatorCommand.{Modulato
 use Rattle.commands.specs.declared.modulator_command.ModulatorCommand.the-variants as modulators
 use Rattle.commands.specs.declared.modulator_command.ModulatorAnswer.{ModulatorAnswer}
 use Rattle.commands.specs.declared.modulator_command.ModulatorAnswer.the-variants as modulatorAnswer
-use Rattle.frame.specs.Frames.{frameOf}
+use Rattle.station.specs.Frames.{frameOf}
 use Rattle.station.specs.declared.Station.{Station}
 
 -- ---- calls
@@ -30,7 +31,7 @@ pub data Call : Type 0 where
   modulator : ModulatorCommand → Call
   frame : Float → Call
 
--- the station that a call leaves
+-- the station that a call leaves: RULES, commands
 abbrev pub after : Station → Call → Station
 after st (clock c) = record { clocks = runClockOf (st .clocks) c .table; modulators = st .modulators }
 after st (modulator c) = record { clocks = st .clocks; modulators = runModulatorOf (st .modulators) c .table }
@@ -43,7 +44,7 @@ afterAll st (c ∷ cs) = afterAll (after st c) cs
 
 -- ---- the two tables
 
--- "clock ids and modulator ids are separate kinds"
+-- an id is of a clock or of a modulator: RULES, id
 pub data Kind : Type 0 where
   ofClock : Kind
   ofModulator : Kind
@@ -86,7 +87,7 @@ modulatorTold (modulatorAnswer.Id id) = named ofModulator (id .slot) (id .genera
 modulatorTold (modulatorAnswer.Value x) = done
 modulatorTold (modulatorAnswer.Refused n) = refusal n
 
--- 0 is OK
+-- 0 is OK: RULES, ok
 abbrev pub frameTold : ℕ → Told
 frameTold n = cond (eqb n 0) done (refusal n)
 

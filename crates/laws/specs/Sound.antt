@@ -1,4 +1,6 @@
--- What holds of the parameters that calls can reach, with document 01's words beside it: no NaN in a value or a speed, a tween's time within its duration, its start readable in its target's unit, nothing under way where a parameter is stagnant. Assumes nothing.
+-- What holds of the parameters that calls can reach: no NaN in a value or a speed, a tween's time within its duration,
+-- its start readable in its target's unit, nothing under way where a parameter is stagnant. 01, "parameter.rs" and
+-- "Speeds"; RULES, no-nan. Assumes nothing.
 use mathlib.Core.Path.{_≡_}
 use Prim.Native.Nat.{ℕ}
 use mathlib.Core.Bool.{true, false}
@@ -8,32 +10,32 @@ use lib.Ieee.{Float, fin, binary64, fits}
 use lib.Ieee.Scale.{finite}
 use Rattle.doubles.specs.Doubles.{zeroF}
 use Rattle.doubles.specs.Intervals.{Between}
-use Rattle.duration.specs.Durations.{secondsOf}
+use Rattle.times.specs.Durations.{secondsOf}
 use Rattle.judge.specs.Judge.{noFaults}
-use Rattle.clock_speed.specs.Speeds.{badReading}
-use Rattle.clock_speed.specs.RunningSpeeds.{Running, numberOf}
-use Rattle.tween.specs.Easings.{tweenFaults}
-use Rattle.value.specs.Values.{floatValueFaults, speedValueFaults}
-use Rattle.value.specs.declared.Input.{Input}
-use Rattle.value.specs.declared.Input.the-variants as input
-use Rattle.value.specs.declared.FloatValue.{FloatValue}
-use Rattle.value.specs.declared.FloatValue.the-variants as float
-use Rattle.value.specs.declared.SpeedValue.{SpeedValue}
-use Rattle.value.specs.declared.SpeedValue.the-variants as speed
-use Rattle.speed_parameter.specs.SpeedParameters.{targetUnit}
-use Rattle.course.specs.declared.Course.{Course}
-use Rattle.float_parameter.specs.declared.FloatTweening.{FloatTweening}
-use Rattle.float_parameter.specs.declared.FloatState.{FloatState}
-use Rattle.float_parameter.specs.declared.FloatState.the-variants as floatState
-use Rattle.float_parameter.specs.declared.FloatParameter.{FloatParameter}
-use Rattle.speed_parameter.specs.declared.SpeedTweening.{SpeedTweening}
-use Rattle.speed_parameter.specs.declared.SpeedState.{SpeedState}
-use Rattle.speed_parameter.specs.declared.SpeedState.the-variants as speedState
-use Rattle.speed_parameter.specs.declared.SpeedParameter.{SpeedParameter}
+use Rattle.values.specs.Speeds.{badReading}
+use Rattle.values.specs.RunningSpeeds.{Running, numberOf}
+use Rattle.times.specs.Easings.{tweenFaults}
+use Rattle.values.specs.Values.{floatValueFaults, speedValueFaults}
+use Rattle.values.specs.declared.value.Input.{Input}
+use Rattle.values.specs.declared.value.Input.the-variants as input
+use Rattle.values.specs.declared.value.FloatValue.{FloatValue}
+use Rattle.values.specs.declared.value.FloatValue.the-variants as float
+use Rattle.values.specs.declared.value.SpeedValue.{SpeedValue}
+use Rattle.values.specs.declared.value.SpeedValue.the-variants as speed
+use Rattle.parameter.specs.SpeedParameters.{targetUnit}
+use Rattle.parameter.specs.declared.course.Course.{Course}
+use Rattle.parameter.specs.declared.float.FloatTweening.{FloatTweening}
+use Rattle.parameter.specs.declared.float.FloatState.{FloatState}
+use Rattle.parameter.specs.declared.float.FloatState.the-variants as floatState
+use Rattle.parameter.specs.declared.float.FloatParameter.{FloatParameter}
+use Rattle.parameter.specs.declared.speed.SpeedTweening.{SpeedTweening}
+use Rattle.parameter.specs.declared.speed.SpeedState.{SpeedState}
+use Rattle.parameter.specs.declared.speed.SpeedState.the-variants as speedState
+use Rattle.parameter.specs.declared.speed.SpeedParameter.{SpeedParameter}
 
 -- ---- numbers
 
--- "All floats are doubles": a value that the format holds
+-- a value that the format holds: RULES, double-arithmetic
 abbrev pub Double : Float → Type 0
 Double x = T (fits binary64 x)
 
@@ -41,7 +43,7 @@ Double x = T (fits binary64 x)
 abbrev pub Within : ℕ → Float → Type 0
 Within k x = Between (fin true 1 (pos k)) x (fin false 1 (pos k))
 
--- BAD_FLOAT is given for "NaN, infinite or over 2^40 in magnitude": the numbers that are left
+-- the numbers that are not refused: RULES, bad-float
 abbrev pub Sized : Float → Type 0
 Sized x = Double x × Within 40 x
 
@@ -70,7 +72,8 @@ pub record SoundSpeedValue (v : SpeedValue) : Type 0 where
 
 -- ---- tweens under way
 
--- an accepted tween, with what is left of its delay; "each passing adds dt to its time, and on time ≥ duration it becomes Idle", so its time does not pass its duration
+-- an accepted tween, with what is left of its delay; a tween ends where its time reaches its duration (RULES, end), so
+-- the time does not pass it
 pub record SoundCourse (c : Course) : Type 0 where
   pub accepted : tweenFaults (c .tween) ≡ noFaults
   pub double : Double (c .time)
@@ -81,7 +84,8 @@ pub record SoundFloatTweening (t : FloatTweening) : Type 0 where
   pub target : SoundFloatValue (t .target)
   pub course : SoundCourse (t .course)
 
--- "Tweening from speed 0 to seconds per tick, which makes NaN" is ruled out: "the present [..] speed, read in the target's unit", is finite and at most 2^27
+-- the start has a reading in the target's unit, finite and at most 2^27, so no mix of the two is a NaN: RULES,
+-- bad-reading
 pub record SoundSpeedTweening (t : SpeedTweening) : Type 0 where
   pub start : Running (t .start)
   pub target : SoundSpeedValue (t .target)
@@ -98,7 +102,8 @@ abbrev pub SoundSpeedState : SpeedState → Type 0
 SoundSpeedState (speedState.Idle v) = SoundSpeedValue v
 SoundSpeedState (speedState.Tweening t) = SoundSpeedTweening t
 
--- an update leaves a stagnant parameter as it is: it has no tween and no modulator to follow, and shows the fixed value that it rests at
+-- an update leaves a stagnant parameter as it is: it has no tween and no modulator to follow, and shows the fixed value
+-- that it rests at: RULES, at-rest
 pub record SoundFloat (p : FloatParameter) : Type 0 where
   pub raw : Sized (p .raw)
   pub state : SoundFloatState (p .state)

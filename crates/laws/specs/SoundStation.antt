@@ -1,4 +1,6 @@
--- What holds of every clock, modulator and table that calls can reach, with document 01's words beside it: speeds that a clock can run at, fractions that are not refused, ticks up to 2^64 − 1, values and phases that are numbers. Assumes nothing.
+-- What holds of every clock, modulator and table that calls can reach: speeds that a clock can run at, fractions that
+-- are not refused, ticks up to 2^64 − 1, values and phases that are numbers. 01, "clock.rs" and "modulator/tweener.rs,
+-- lfo.rs"; RULES, no-nan. Assumes nothing.
 use Prim.Native.Nat.{_^_, _<_}
 use mathlib.Core.Path.{_≡_}
 use mathlib.Core.Bool.{true, false}
@@ -7,31 +9,31 @@ use lib.Dec.{T}
 use lib.Ieee.{Float, le, lt}
 use lib.Ieee.Scale.{finite}
 use Rattle.doubles.specs.Doubles.{zeroF, oneF, signOf}
-use Rattle.tables.specs.Keys.{Numbered}
+use Rattle.ids.specs.Keys.{Numbered}
 use Rattle.ticks.specs.declared.Position.{Position}
 use Rattle.judge.specs.Judge.{noFaults, badFraction}
-use Rattle.clock_speed.specs.Speeds.{tpsOf}
+use Rattle.values.specs.Speeds.{tpsOf}
 use Rattle.waveform.specs.Waves.{waveFaults}
 use Rattle.waveform.specs.declared.Waveform.{Waveform}
 use Rattle.waveform.specs.declared.Waveform.the-variants.{Triangle, Saw, Pulse}
 use Rattle.clock.specs.OneClock.{positionOf}
 use Rattle.clock.specs.declared.Clock.{Clock}
-use Rattle.clocks.specs.declared.Clocks.{Clocks}
+use Rattle.clock_table.specs.declared.Clocks.{Clocks}
 use Rattle.modulator.specs.declared.lfo.Lfo.{Lfo}
 use Rattle.modulator.specs.declared.lfo.LfoBuilder.{LfoBuilder}
 use Rattle.modulator.specs.declared.tweener.Tweener.{Tweener}
 use Rattle.modulator.specs.declared.tweener.TweenerMove.{TweenerMove}
 use Rattle.modulator.specs.declared.tweener.TweenerState.{TweenerState}
 use Rattle.modulator.specs.declared.tweener.TweenerState.the-variants as tweenerState
-use Rattle.modulators.specs.declared.Modulator.{Modulator}
-use Rattle.modulators.specs.declared.Modulator.the-variants.{OfTweener, OfLfo}
-use Rattle.modulators.specs.declared.Modulators.{Modulators}
-use Rattle.modulators.specs.declared.Slot.{Slot}
+use Rattle.modulator_table.specs.declared.Modulator.{Modulator}
+use Rattle.modulator_table.specs.declared.Modulator.the-variants.{OfTweener, OfLfo}
+use Rattle.modulator_table.specs.declared.Modulators.{Modulators}
+use Rattle.modulator_table.specs.declared.Slot.{Slot}
 use Rattle.commands.specs.declared.clock_command.ClockCommand.{ClockCommand}
 use Rattle.commands.specs.declared.clock_command.ClockCommand.the-variants as clocks
 use Rattle.commands.specs.declared.modulator_command.ModulatorCommand.{ModulatorCommand}
 use Rattle.commands.specs.declared.modulator_command.ModulatorCommand.the-variants as modulators
-use Rattle.station.specs.Stations.{slotValue}
+use Rattle.modulator_table.specs.ModulatorTables.{slotValue}
 use Rattle.station.specs.declared.Station.{Station}
 use Rattle.laws.specs.Calls.{Call, clock, modulator, frame}
 use Rattle.laws.specs.Sound.{Double, Sized, FloatDoubles, SpeedDoubles, SoundCourse, SoundFloat, SoundSpeed}
@@ -47,18 +49,18 @@ Number x = Double x × T (finite x)
 
 -- ---- clocks
 
--- BAD_TIME is given for a "fraction below 0, −0.0, 1 or more, or NaN", TICKS_FULL where "ticks would pass 2^64 − 1": no clock comes to either
+-- a fraction that is not refused (RULES, bad-time), and ticks that fit 64 bits (RULES, ticks-full)
 pub record SoundPosition (p : Position) : Type 0 where
   pub double : Double (p .fraction)
   pub accepted : badFraction (p .fraction) ≡ false
   pub room : p .ticks < 2 ^ 64
 
--- a clock that has not started is at (0, 0.0)
+-- a clock that has not started stands at tick 0 and fraction 0.0: RULES, unstarted-clock
 pub record SoundClock (c : Clock) : Type 0 where
   pub speed : SoundSpeed (c .speed)
   pub position : SoundPosition (positionOf (c .state))
 
--- of unused slots too: they hold what they held
+-- of unused slots too: they hold what they held: RULES, empty-slot
 pub record SoundClocks (t : Clocks) : Type 0 where
   pub keys : Numbered (t .keys)
   pub entries : All SoundClock (t .clocks)
@@ -87,7 +89,7 @@ pub record SoundWave (w : Waveform) : Type 0 where
   pub doubles : WaveDoubles w
   pub accepted : waveFaults w ≡ noFaults
 
--- "phase = (phase + dt·frequency) % 1; value = offset + amplitude·wave": both are numbers
+-- an LFO's phase and its value are numbers: RULES, lfo-update
 pub record SoundLfo (l : Lfo) : Type 0 where
   pub waveform : SoundWave (l .waveform)
   pub frequency : SoundFloat (l .frequency)
@@ -113,7 +115,7 @@ pub record SoundStation (st : Station) : Type 0 where
   pub clocks : SoundClocks (st .clocks)
   pub modulators : SoundModulators (st .modulators)
 
--- ---- calls: "All floats are doubles"
+-- ---- calls: their floats are doubles
 
 abbrev pub ClockDoubles : ClockCommand → Type 0
 ClockDoubles (clocks.Add v) = SpeedDoubles v
@@ -151,7 +153,8 @@ CallDoubles (frame dt) = Unit {0}
 
 -- ---- what the customer sees of it
 
--- a clock's ticks per second are finite and not negative, and the fraction of its time lies in 0..1, is not 1 and is not −0.0
+-- a clock's ticks per second are finite and not negative, and the fraction of its time lies in 0..1, is not 1 and is
+-- not −0.0: RULES, no-nan
 pub record Ticks (c : Clock) : Type 0 where
   pub rate : T (finite (tpsOf (c .speed .raw)))
   pub forward : T (le zeroF (tpsOf (c .speed .raw)))

@@ -1,9 +1,10 @@
--- Any two outcomes that a statement allows coincide (`Rattle.doubles.proofs.Outcomes` has the law). Assumes nothing.
+-- Any two outcomes that a statement allows coincide (`Rattle.doubles.proofs.Outcomes` has the law). RULES, one-outcome.
+-- Assumes nothing.
 use Rattle.doubles.proofs.Outcomes.{One, equal}
-use Rattle.lines.proofs.values.speed_value.Reads as speed-value
-use Rattle.lines.proofs.values.speed_value.Kinds as speed-value-kinds
-use Rattle.lines.proofs.values.tween.Reads as tween
-use Rattle.lines.proofs.values.tween.Kinds as tween-kinds
+use Rattle.lines.proofs.things.speed_value.Reads as speed-value
+use Rattle.lines.proofs.things.speed_value.Kinds as speed-value-kinds
+use Rattle.lines.proofs.things.tween.Reads as tween
+use Rattle.lines.proofs.things.tween.Kinds as tween-kinds
 use Rattle.lines.proofs.clock_lines.clock_line.Reads as clock-line
 use Rattle.lines.proofs.clock_lines.clock_line.Kinds as clock-line-kinds
 use Rattle.lines.proofs.modulator_lines.modulator_line.Reads as modulator-line

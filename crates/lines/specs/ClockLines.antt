@@ -3,7 +3,7 @@ use Prim.Native.Nat.{ℕ}
 use mathlib.Core.Bool.{cond}
 use mathlib.Core.List.{List, [], _∷_}
 use Rattle.text.specs.declared.Word.{Word}
-use Rattle.time.specs.declared.ClockId.{ClockId}
+use Rattle.times.specs.declared.time.ClockId.{ClockId}
 use Rattle.grammar.specs.Grammar.{named, endedAt, idAt, withId}
 use Rattle.commands.specs.declared.clock_command.ClockCommand.the-variants.{Add, Remove, Start, Stop, Reset, SetSpeed, Time, Ticking, Speed}
 use Rattle.lines.specs.Things.{speedValueAt, tweenAt, withSpeedValue, withTween}
@@ -62,7 +62,8 @@ setSpeedLine s at =
     withTween No (tweenAt s b) (λ t to.
     whole s to (Is (SetSpeed (record { slot = slot; generation = generation }) v t)))))
 
--- "`clock.drop ID` `clock.start ID` `clock.stop ID` `clock.reset ID`", "`clock.time ID`", "`clock.ticking ID`", "`clock.getspeed ID`"
+-- "`clock.drop ID` `clock.start ID` `clock.stop ID` `clock.reset ID`", "`clock.time ID`", "`clock.ticking ID`",
+-- "`clock.getspeed ID`"
 unfoldable pub byIdLine : List ℕ → Word → ClockId → ClockLine
 byIdLine s name id =
     cond (named s name «clockDrop») (Is (Remove id))

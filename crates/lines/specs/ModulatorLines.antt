@@ -1,10 +1,11 @@
--- The calls tweener.*, lfo.*, mod.value and mod.drop of docs/BENCH.md: the command that a line is, if it is one. Assumes nothing.
+-- The calls tweener.*, lfo.*, mod.value and mod.drop of docs/BENCH.md: the command that a line is, if it is one.
+-- Assumes nothing.
 use Prim.Native.Nat.{ℕ}
 use mathlib.Core.Bool.{cond}
 use mathlib.Core.List.{List, [], _∷_}
 use Rattle.text.specs.declared.Word.{Word}
-use Rattle.value.specs.declared.FloatValue.{FloatValue}
-use Rattle.value.specs.declared.ModulatorId.{ModulatorId}
+use Rattle.values.specs.declared.value.FloatValue.{FloatValue}
+use Rattle.values.specs.declared.value.ModulatorId.{ModulatorId}
 use Rattle.waveform.specs.declared.Waveform.{Waveform}
 use Rattle.grammar.specs.Grammar.{named, endedAt, floatAt, idAt, floatValueAt, waveAt, withFloat, withId}
 use Rattle.grammar.specs.declared.FloatValueAt.{FloatValueAt}

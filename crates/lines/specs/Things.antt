@@ -2,20 +2,20 @@
 use Prim.Native.Nat.{ℕ}
 use mathlib.Core.Bool.{cond}
 use mathlib.Core.List.{List}
-use Rattle.start_time.specs.declared.StartTime.{StartTime}
-use Rattle.tween.specs.declared.Tween.{Tween}
-use Rattle.value.specs.declared.SpeedMapping.{SpeedMapping}
-use Rattle.value.specs.declared.SpeedValue.{SpeedValue}
-use Rattle.value.specs.declared.SpeedValue.the-variants.{Fixed, FromModulator}
+use Rattle.times.specs.declared.start_time.StartTime.{StartTime}
+use Rattle.times.specs.declared.tween.Tween.{Tween}
+use Rattle.values.specs.declared.value.SpeedMapping.{SpeedMapping}
+use Rattle.values.specs.declared.value.SpeedValue.{SpeedValue}
+use Rattle.values.specs.declared.value.SpeedValue.the-variants.{Fixed, FromModulator}
 use Rattle.grammar.specs.Grammar.{firstWord, named, «fix», «mod», idAt, numberAt, speedAt, easeAt, startAt, speedMapAt, withId, withNumber, withSpeed, withEase}
 use Rattle.grammar.specs.declared.StartAt.{StartAt}
 use Rattle.grammar.specs.declared.StartAt.the-variants as start
 use Rattle.grammar.specs.declared.SpeedMapAt.{SpeedMapAt}
 use Rattle.grammar.specs.declared.SpeedMapAt.the-variants as speedMap
-use Rattle.lines.specs.declared.values.SpeedValueAt.{SpeedValueAt}
-use Rattle.lines.specs.declared.values.SpeedValueAt.the-variants as speedValue
-use Rattle.lines.specs.declared.values.TweenAt.{TweenAt}
-use Rattle.lines.specs.declared.values.TweenAt.the-variants as tween
+use Rattle.lines.specs.declared.things.SpeedValueAt.{SpeedValueAt}
+use Rattle.lines.specs.declared.things.SpeedValueAt.the-variants as speedValue
+use Rattle.lines.specs.declared.things.TweenAt.{TweenAt}
+use Rattle.lines.specs.declared.things.TweenAt.the-variants as tween
 
 module _ {A : Type 0} (none : A) where
   abbrev pub withStart : StartAt → (StartTime → ℕ → A) → A

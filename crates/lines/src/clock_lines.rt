@@ -1,14 +1,14 @@
 // The calls clock.*, as commands.
 ghost use mathlib.Core.Path.{_≡_};
 ghost use Rattle.lines.specs.ClockLines.{addLine, setSpeedLine, byIdLine, clockLine};
-use crate::values::SpeedValueAt;
-use crate::values::TweenAt;
-use crate::values::speed_value;
-use crate::values::tween;
+use crate::things::SpeedValueAt;
+use crate::things::TweenAt;
+use crate::things::speed_value;
+use crate::things::tween;
 use commands::clock_command::ClockCommand;
 use grammar::IdAt;
 use text::Word;
-use time::ClockId;
+use times::time::ClockId;
 
 pub enum ClockLine {
     Is(ClockCommand),

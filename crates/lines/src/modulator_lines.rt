@@ -1,8 +1,8 @@
 // The calls tweener.*, lfo.*, mod.value and mod.drop, as commands.
 ghost use mathlib.Core.Path.{_≡_};
 ghost use Rattle.lines.specs.ModulatorLines.{addTweenerLine, addLfoLine, setTweenerLine, setParameterLine, setWaveformLine, setPhaseLine, byIdLine, modulatorLine};
-use crate::values::TweenAt;
-use crate::values::tween;
+use crate::things::TweenAt;
+use crate::things::tween;
 use commands::modulator_command::ModulatorCommand;
 use grammar::FloatAt;
 use grammar::FloatValueAt;
@@ -11,7 +11,7 @@ use grammar::WaveAt;
 use modulator::lfo::LfoBuilder;
 use modulator::lfo::LfoParameter;
 use text::Word;
-use value::ModulatorId;
+use values::value::ModulatorId;
 
 pub enum ModulatorLine {
     Is(ModulatorCommand),

@@ -1,4 +1,5 @@
--- Any two outcomes that a statement allows coincide, for each public function of the crate: `One` of the crate `doubles` says it of the very clause that the check reads off the source. Assumes nothing.
+-- Any two outcomes that a statement allows coincide, for each public function of the crate: `One` of the crate
+-- `doubles` says it of the very clause that the check reads off the source. RULES, one-outcome. Assumes nothing.
 use Rattle.doubles.proofs.Outcomes.{One, equal}
 use Rattle.modulator.proofs.lfo.builder_faults.Reads as builder-faults
 use Rattle.modulator.proofs.lfo.builder_faults.Kinds as builder-faults-kinds

@@ -1,15 +1,15 @@
--- Document 01, "lfo.rs". Assumes nothing.
+-- Document 01, "modulator/tweener.rs; lfo.rs": an LFO, its parameters, its phase and its update. Assumes nothing.
 use mathlib.Core.Bool.{false}
 use lib.IntN.{negsuc}
 use lib.Ieee.{Float, fin, binary64, add, mul, div, rem}
 use Rattle.doubles.specs.Doubles.{zeroF, oneF, twoF}
 use Rattle.judge.specs.Judge.{bothFaults, floatFaults}
 use Rattle.judge.specs.declared.Faults.{Faults}
-use Rattle.value.specs.Values.{floatValueFaults}
+use Rattle.values.specs.Values.{floatValueFaults}
 use Rattle.waveform.specs.Waves.{waveFaults, waveValueOf}
 use Rattle.waveform.specs.declared.Waveform.{Waveform}
-use Rattle.float_parameter.specs.FloatParameters.{newOf, updateOf}
-use Rattle.float_parameter.specs.declared.FloatParameter.{FloatParameter}
+use Rattle.parameter.specs.FloatParameters.{newOf, updateOf}
+use Rattle.parameter.specs.declared.float.FloatParameter.{FloatParameter}
 use Rattle.modulator.specs.declared.lfo.LfoBuilder.{LfoBuilder}
 use Rattle.modulator.specs.declared.lfo.Lfo.{Lfo}
 use Rattle.modulator.specs.declared.lfo.LfoParameter.{LfoParameter}
@@ -17,11 +17,11 @@ use Rattle.modulator.specs.declared.lfo.LfoParameter.the-variants.{Frequ
 use Rattle.modulator.specs.declared.lfo.Sight.{Sight}
 use Rattle.modulator.specs.declared.lfo.LfoSight.{LfoSight}
 
--- "TAU, the double 6.283185307179586": 884279719003555 / 2^47
+-- a full turn in radians, as the double 884279719003555 / 2^47: RULES, tau
 abbrev pub tau : Float
 tau = fin false 884279719003555 (negsuc 46)
 
--- "A starting or set phase is divided by TAU"
+-- radians as turns: RULES, tau
 abbrev pub turnsOf : Float → Float
 turnsOf x = div binary64 x tau
 
@@ -30,7 +30,7 @@ builderFaults b =
     bothFaults (bothFaults (waveFaults (b .waveform)) (floatFaults (b .«starting_phase»)))
     (bothFaults (floatValueFaults (b .frequency)) (bothFaults (floatValueFaults (b .amplitude)) (floatValueFaults (b .offset))))
 
--- "2, 1 and 0 for an LFO's frequency, amplitude and offset"; "the value is 0 until the first update"
+-- its parameters with the defaults of linked ones, and nothing to show before an update: RULES, first-value and lfo
 abbrev pub newLfo : LfoBuilder → Lfo
 newLfo b = record {
   waveform = b .waveform;
@@ -61,15 +61,15 @@ withPhaseOf x l = record { waveform = l .waveform; frequency = l .frequency; amp
 abbrev pub updatedBy : FloatParameter → Float → Sight → FloatParameter
 updatedBy p dt s = updateOf p dt (s .when) (s .input) .parameter
 
--- "phase = (phase + dt·frequency) % 1"
+-- dt times the frequency joins the phase, and whole turns are dropped: RULES, phase
 abbrev pub phaseBy : Float → Float → FloatParameter → Float
 phaseBy phase dt frequency = rem binary64 (add binary64 phase (mul binary64 dt (frequency .raw))) oneF
 
--- "value = offset + amplitude·wave"
+-- the wave, scaled by the amplitude and moved by the offset: RULES, lfo-update
 abbrev pub valueBy : Waveform → FloatParameter → FloatParameter → Float → Float
 valueBy w amplitude offset phase = add binary64 (offset .raw) (mul binary64 (amplitude .raw) (waveValueOf w phase))
 
--- the parameters first, then the phase, then the value
+-- the parameters first, then the phase, then the value: RULES, lfo-update
 unfoldable pub updateLfoOf : Lfo → Float → LfoSight → Lfo
 updateLfoOf l dt s =
     let frequency = updatedBy (l .frequency) dt (s .frequency) in

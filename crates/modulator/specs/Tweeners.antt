@@ -1,15 +1,16 @@
--- Document 01, "modulator/tweener.rs": "The tweener starts as a parameter does and holds its value while waiting." Assumes nothing.
+-- Document 01, "modulator/tweener.rs; lfo.rs": a tweener. It is timed as a parameter is, and shows the same value for
+-- as long as it waits: RULES, tweener-update. Assumes nothing.
 use lib.Ieee.{Float}
 use Rattle.judge.specs.Judge.{bothFaults, floatFaults}
-use Rattle.tweenable.specs.Tweenables.{interpolateOf}
+use Rattle.values.specs.Tweenables.{interpolateOf}
 use Rattle.judge.specs.declared.Faults.{Faults}
-use Rattle.start_time.specs.declared.When.{When}
-use Rattle.tween.specs.Easings.{tweenFaults}
-use Rattle.tween.specs.declared.Tween.{Tween}
-use Rattle.course.specs.Courses.{newCourse, stepOf, amountAt}
-use Rattle.course.specs.declared.Course.{Course}
-use Rattle.course.specs.declared.Stepped.{Stepped}
-use Rattle.course.specs.declared.Stepped.the-variants.{Waits, Goes, Ends}
+use Rattle.times.specs.declared.start_time.When.{When}
+use Rattle.times.specs.Easings.{tweenFaults}
+use Rattle.times.specs.declared.tween.Tween.{Tween}
+use Rattle.parameter.specs.Courses.{newCourse, stepOf, amountAt}
+use Rattle.parameter.specs.declared.course.Course.{Course}
+use Rattle.parameter.specs.declared.course.Stepped.{Stepped}
+use Rattle.parameter.specs.declared.course.Stepped.the-variants.{Waits, Goes, Ends}
 use Rattle.modulator.specs.declared.tweener.TweenerMove.{TweenerMove}
 use Rattle.modulator.specs.declared.tweener.TweenerState.{TweenerState}
 use Rattle.modulator.specs.declared.tweener.TweenerState.the-variants.{Idle, Tweening}
@@ -21,9 +22,9 @@ newTweener x = record { state = Idle; value = x }
 abbrev pub tweenerFaults : Float → Tween → Faults
 tweenerFaults x t = bothFaults (floatFaults x) (tweenFaults t)
 
--- a tween from the present value, at time 0
-abbrev pub setTweenerOf : Float → Tween → Tweener → Tweener
-setTweenerOf x w t = record {
+-- a tween from the present value, at time 0: RULES, tweener
+abbrev pub tweenerToOf : Float → Tween → Tweener → Tweener
+tweenerToOf x w t = record {
   state = Tweening (record { start = t .value; target = x; course = newCourse w });
   value = t .value;
 }
@@ -31,7 +32,7 @@ setTweenerOf x w t = record {
 abbrev pub onCourse : TweenerMove → Course → Float → Tweener
 onCourse m c x = record { state = Tweening (record { start = m .start; target = m .target; course = c }); value = x }
 
--- waiting, under way, or at its target
+-- waiting, under way, or at its target: RULES, tweener-update
 abbrev pub byStep : TweenerMove → Stepped → Float → Tweener
 byStep m (Waits c) x = onCourse m c x
 byStep m (Goes c) x = onCourse m c (interpolateOf (m .start) (m .target) (amountAt c))

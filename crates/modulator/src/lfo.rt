@@ -1,16 +1,16 @@
 // An LFO, as modulator/lfo.rs has it.
 ghost use mathlib.Core.Path.{_≡_};
 ghost use Rattle.modulator.specs.Lfos.{turnsOf, newLfo, builderFaults, parameterOf, withParameterOf, withWaveOf, withPhaseOf, updatedBy, updateLfoOf};
-use float_parameter::FloatParameter;
-use float_parameter::new_float;
-use float_parameter::update_float;
 use judge::Faults;
 use judge::both;
 use judge::float_faults;
-use start_time::When;
-use value::FloatValue;
-use value::Input;
-use value::float_value_faults;
+use parameter::float::FloatParameter;
+use parameter::float::new_float;
+use parameter::float::update_float;
+use times::start_time::When;
+use values::value::FloatValue;
+use values::value::Input;
+use values::value::float_value_faults;
 use waveform::Waveform;
 use waveform::wave_faults;
 use waveform::wave_value;
@@ -78,7 +78,7 @@ pub fn builder_faults(b: LfoBuilder) -> Faults
     )
 }
 
-// Its value is 0 until the first update.
+// It shows 0 before it is updated: RULES, lfo.
 pub fn new_lfo(b: LfoBuilder) -> Lfo
     ensures { λ r. ⌜ r ≡ newLfo b ⌝ }
 {

@@ -1,18 +1,18 @@
 // A tweener, as modulator/tweener.rs has it.
 ghost use mathlib.Core.Path.{_≡_};
-ghost use Rattle.modulator.specs.Tweeners.{newTweener, setTweenerOf, tweenerFaults, onCourse, movedOf, updateTweenerOf};
-use course::Course;
-use course::Stepped;
-use course::amount;
-use course::begin;
-use course::step;
+ghost use Rattle.modulator.specs.Tweeners.{newTweener, tweenerToOf, tweenerFaults, onCourse, movedOf, updateTweenerOf};
 use judge::Faults;
 use judge::both;
 use judge::float_faults;
-use start_time::When;
-use tween::Tween;
-use tween::tween_faults;
-use tweenable::interpolate;
+use parameter::course::Course;
+use parameter::course::Stepped;
+use parameter::course::amount;
+use parameter::course::begin;
+use parameter::course::step;
+use times::start_time::When;
+use times::tween::Tween;
+use times::tween::tween_faults;
+use values::tweenable::interpolate;
 
 // A tween under way: from a value to a target.
 pub struct TweenerMove {
@@ -49,7 +49,7 @@ pub fn tweener_faults(target: f64, tween: Tween) -> Faults
 
 // A tween from the present value to a target.
 pub fn tweener_to(t: Tweener, target: f64, tween: Tween) -> Tweener
-    ensures { λ r. ⌜ r ≡ setTweenerOf target tween t ⌝ }
+    ensures { λ r. ⌜ r ≡ tweenerToOf target tween t ⌝ }
 {
     let course = begin(tween);
     Tweener {
@@ -76,7 +76,7 @@ fn on_course(m: TweenerMove, course: Course, value: f64) -> Tweener
     }
 }
 
-// A waiting tweener holds its value, and one that ends has its target's.
+// One that waits keeps what it shows, and one that ends shows its target: RULES, tweener-update.
 fn moved(m: TweenerMove, dt: f64, when: When, value: f64) -> Tweener
     ensures { λ r. ⌜ r ≡ movedOf m dt when value ⌝ }
 {

@@ -6,7 +6,7 @@ use mathlib.Core.Bool.{true, false}
 use mathlib.Core.List.{List, [], _++_}
 use lib.ListN.{length, getD, drop}
 use lib.Seq.{drop-cons, drop-length}
-use Rattle.tables.specs.declared.Key.{Key}
+use Rattle.ids.specs.declared.Key.{Key}
 use Rattle.clock.specs.declared.Reported.{Reported}
 use Rattle.digits.specs.Puts.{Put, putOf, putAll, lineEnd, lineOf}
 use Rattle.replies.specs.Replies.{tickText, ticksText}

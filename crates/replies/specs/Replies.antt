@@ -2,7 +2,7 @@
 use Prim.Native.Nat.{ℕ, _+_}
 use mathlib.Core.Bool.{cond}
 use mathlib.Core.List.{List, [], _∷_, _++_}
-use Rattle.tables.specs.declared.Key.{Key}
+use Rattle.ids.specs.declared.Key.{Key}
 use Rattle.clock.specs.declared.Reported.{Reported}
 use lib.Dec.{eqb}
 use Rattle.report.specs.declared.Filled.{Filled}

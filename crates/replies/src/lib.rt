@@ -6,8 +6,8 @@ ghost use Rattle.replies.specs.Replies.{okText, idReply, clockText, modu
 use clock::Reported;
 use commands::clock_command::ClockAnswer;
 use commands::modulator_command::ModulatorAnswer;
+use ids::Key;
 use report::Filled;
-use tables::Key;
 
 // A call that has nothing to tell.
 pub fn ok(out: &mut [u8]) -> usize

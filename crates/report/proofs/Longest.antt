@@ -1,4 +1,5 @@
--- "The longest report is 96 bytes": none is longer, and one is as long. Document 01's own example is the report of its clock. Assumes nothing.
+-- No report is longer than 96 bytes, and one is as long: RULES, report-buffer. And the one that 01 shows in "Worked
+-- rows" is the report of its clock (`example`). That and `attained` stand for a reader. Assumes nothing.
 use Prim.Native.Nat.{ℕ, _-_, _^_, _<_, _≤_}
 use native.Mathlib.Omega.{arith}
 use mathlib.Core.Path.{_≡_, refl}
@@ -9,9 +10,9 @@ use lib.ListN.{length, length-append}
 use Rattle.doubles.specs.Doubles.{zeroF, halfF}
 use Rattle.digits.specs.Digits.{placesFrom, numberText, hexText}
 use Rattle.digits.proofs.Lengths.{number-exact, number-length, hex-length, flag-length}
-use Rattle.clock_speed.specs.declared.ClockSpeed.the-variants.{TicksPerSecond}
-use Rattle.time.specs.declared.ClockId.{ClockId}
-use Rattle.value.specs.declared.SpeedValue.the-variants.{Fixed}
+use Rattle.values.specs.declared.clock_speed.ClockSpeed.the-variants.{TicksPerSecond}
+use Rattle.times.specs.declared.time.ClockId.{ClockId}
+use Rattle.values.specs.declared.value.SpeedValue.the-variants.{Fixed}
 use Rattle.clock.specs.OneClock.{newClock, positionOf, freshOf}
 use Rattle.clock.specs.declared.Clock.{Clock}
 use Rattle.clock.specs.declared.ClockState.the-variants.{Started}
@@ -54,7 +55,7 @@ attained =
       hex-length (toBits binary64 halfF),
     ))
 
--- document 01, "A clock's report, whole": slot=2, gen=1, ticking=1, started=1, ticks=3, fraction=3fe0000000000000, a line each
+-- 01's own report: slot 2 in its first generation, ticking, started, at 3.5 ticks
 pub example :
     reportText (idOf 2 1) (clockAt 3 halfF)
     ≡ 0x73 ∷ 0x6c ∷ 0x6f ∷ 0x74 ∷ 0x3d ∷ 0x32 ∷ 0x0a

@@ -1,4 +1,6 @@
--- Any two outcomes that a statement allows coincide, the answer and the buffer: `Same` of the crate `digits` says it of the very clause that the check reads off the source (`Reads.Post`). No two answers tell the same. Assumes nothing.
+-- Any two outcomes that a statement allows coincide, the answer and the buffer: `Same` of the crate `digits` says it of
+-- the very clause that the check reads off the source (`Reads.Post`). No two answers tell the same. RULES, one-outcome.
+-- Assumes nothing.
 use Prim.Native.Nat.{ℕ}
 use mathlib.Core.Path.{_≡_, sym, ap, _∙_}
 use mathlib.Core.List.{List}

@@ -1,4 +1,5 @@
--- Document 01, "A clock's report, whole, each line ended by LF, at the buffer's start; later bytes keep what they held". Assumes nothing.
+-- A clock's report: six lines at the start of a buffer that the caller lends. 01, "Worked rows"; RULES, report. Assumes
+-- nothing.
 use Prim.Native.Nat.{ℕ}
 use mathlib.Core.Bool.{Bool, not, cond}
 use mathlib.Core.List.{List, [], _∷_, _++_}
@@ -8,17 +9,18 @@ use Rattle.digits.specs.Digits.{numberText, flagText, floatText}
 use Rattle.digits.specs.Puts.{whole, lineEnd}
 use Rattle.ticks.specs.declared.Position.{Position}
 use Rattle.judge.specs.Answer.{Answer, accepted, refused}
-use Rattle.time.specs.declared.ClockId.{ClockId}
+use Rattle.times.specs.declared.time.ClockId.{ClockId}
 use Rattle.clock.specs.OneClock.{positionOf, freshOf}
-use Rattle.clocks.specs.ClockTables.{whereIs, readFound}
+use Rattle.ids.specs.Tables.{whereIs, readFound}
+use Rattle.clock_table.specs.ClockTables.{clockTable}
 use Rattle.clock.specs.declared.Clock.{Clock}
-use Rattle.clocks.specs.declared.Clocks.{Clocks}
+use Rattle.clock_table.specs.declared.Clocks.{Clocks}
 use Rattle.report.specs.declared.Filled.{Filled}
 use Rattle.report.specs.declared.Filled.the-variants.{Written, Refused}
 
 -- ---- the text
 
--- "slot=", "gen=", "ticking=", "started=", "ticks=", "fraction="
+-- the lines' names: slot, gen, ticking, started, ticks, fraction, each with its equals sign: RULES, report
 abbrev pub slotWord : List ℕ
 slotWord = 0x73 ∷ 0x6c ∷ 0x6f ∷ 0x74 ∷ 0x3d ∷ []
 
@@ -50,7 +52,7 @@ reportLines id ticking started p =
     ++ field ticksWord (numberText (p .ticks))
     ++ field fractionWord (floatText (p .fraction))
 
--- of the clock with that id; "A clock not started reads (0, 0.0)"
+-- of the clock with that id; one that is not started stands at tick 0 and fraction 0.0: RULES, unstarted-clock
 abbrev pub reportText : ClockId → Clock → List ℕ
 reportText id c = whole (reportLines id (c .ticking) (not (freshOf (c .state))) (positionOf (c .state)))
 
@@ -67,18 +69,18 @@ toldReport (Refused n) = refused n
 abbrev pub reported : Filled → List ℕ → Outcome
 reported r out = record { answer = toldReport r; out = out }
 
--- "the state, value or buffer given in comes back unchanged"
+-- a refused report leaves the buffer: RULES, refusal
 abbrev pub unchanged : ℕ → List ℕ → Outcome
 unchanged n out = record { answer = refused n; out = out }
 
--- "at the buffer's start; later bytes keep what they held"
+-- the text stands at the front, and what the buffer held behind it stays: RULES, report-buffer
 abbrev pub atStart : List ℕ → List ℕ → Outcome
 atStart text out = record { answer = accepted (length text); out = text ++ drop (length text) out }
 
--- NO_SUCH: "the id names no living entry"; then BUFFER: "report buffer under 96 bytes"
+-- 7 where there is no such clock; then 11 where the buffer is short: RULES, no-such and short-buffer
 abbrev pub intoBuffer : List ℕ → Answer (List ℕ) → Outcome
 intoBuffer out (refused n) = unchanged n out
 intoBuffer out (accepted text) = cond (ltb (length out) 96) (unchanged 11 out) (atStart text out)
 
 unfoldable pub reportOf : Clocks → ClockId → List ℕ → Outcome
-reportOf t id out = intoBuffer out (readFound t (whereIs t id) (reportText id))
+reportOf t id out = intoBuffer out (readFound clockTable t (whereIs clockTable t id) (reportText id))

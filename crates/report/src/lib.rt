@@ -1,19 +1,21 @@
-// A clock's report: six lines of text at the start of a buffer that the caller lends (document 01, "Worked
-// rows"). A refusal leaves the buffer as it was.
+// A clock's report: six lines of text at the start of a buffer that the caller lends. A refusal leaves the buffer as it
+// was. 01, "Worked rows"; docs/RULES.md, report.
+ghost use Prim.Native.Nat.{_<_};
 ghost use mathlib.Core.Path.{_≡_};
 ghost use mathlib.Core.Bool.{not};
+ghost use Rattle.judge.specs.Answer.{accepted};
 ghost use Rattle.clock.specs.OneClock.{freshOf};
 ghost use Rattle.digits.specs.Digits.{numberText, flagText, floatText};
 ghost use Rattle.digits.specs.Puts.{place, putAll};
-ghost use Rattle.report.specs.Reports.{field, reportLines, reportOf, reported};
+ghost use Rattle.report.specs.Reports.{field, reportLines, reportText, intoBuffer, reportOf, reported};
+use clock::Clock;
 use clock::ClockState;
 use clock::position;
-use clocks::Clocks;
-use tables::Found;
-use tables::NO_SUCH;
-use tables::find;
+use clock_table::Clocks;
+use clock_table::Looked;
+use clock_table::look;
 use ticks::Position;
-use time::ClockId;
+use times::time::ClockId;
 
 pub const BUFFER: u32 = 11;
 
@@ -68,18 +70,24 @@ fn lines(out: &mut [u8], id: ClockId, ticking: bool, started: bool, p: Position)
     float_line(out, e, b"fraction=", p.fraction)
 }
 
-pub fn report(t: Clocks, id: ClockId, out: &mut [u8]) -> Filled
-    ensures { λ r. ⌜ reported r (now (out .exit)) ≡ reportOf t id (now (out .entry)) ⌝ }
+// A living clock's report, unless the buffer may be too short for it.
+fn fill(out: &mut [u8], id: ClockId, c: Clock) -> Filled
+    requires { ⌜ id .slot < 16 ⌝ }
+    ensures { λ r. ⌜ reported r (now (out .exit)) ≡ intoBuffer (now (out .entry)) (accepted (reportText id c)) ⌝ }
 {
-    let keys = t.keys;
-    let Found::At(i) = find(keys, id.slot, id.generation) else {
-        return Filled::Refused(NO_SUCH);
-    };
     if out.len() < LONGEST {
         return Filled::Refused(BUFFER);
     }
-    let c = t.clocks[i];
     let state = c.state;
     let n = lines(out, id, c.ticking, started(state), position(state));
     Filled::Written(n)
+}
+
+pub fn report(t: Clocks, id: ClockId, out: &mut [u8]) -> Filled
+    ensures { λ r. ⌜ reported r (now (out .exit)) ≡ reportOf t id (now (out .entry)) ⌝ }
+{
+    match look(t, id) {
+        Looked::At(_, c) => fill(out, id, c),
+        Looked::Refused(n) => Filled::Refused(n),
+    }
 }

@@ -1,4 +1,5 @@
--- An array that a loop fills with what a function shows of another array's elements is that array's map in the end; and an element set anew is shown anew. Assumes nothing.
+-- An array that a loop fills with what a function shows of another array's elements is that array's map in the end; and
+-- an element set anew is shown anew. Assumes nothing.
 use Prim.Native.Nat.{ℕ, zero, suc, _+_, _<_, _≤_}
 use native.Mathlib.Numerals.{add-one}
 use native.Mathlib.Omega.{arith}

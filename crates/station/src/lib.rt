@@ -1,18 +1,22 @@
 // The whole state. A call on a clock or on a modulator takes the table that it acts on, and no more.
+pub mod frame;
+pub mod turns;
+
 ghost use mathlib.Core.Path.{_≡_};
 ghost use mathlib.Core.List.{map};
 ghost use Rattle.clock.specs.OneClock.{infoOf};
-ghost use Rattle.station.specs.Stations.{freshStation, slotValue, infoIn};
+ghost use Rattle.station.specs.Stations.{freshStation, infoIn};
+ghost use Rattle.modulator_table.specs.ModulatorTables.{slotValue};
 use clock::Clock;
 use clock::ClockInfo;
 use clock::clock_info;
-use clocks::Clocks;
-use clocks::no_clocks;
+use clock_table::Clocks;
+use clock_table::no_clocks;
 use info::info::Info;
-use modulators::Modulators;
-use modulators::Slot;
-use modulators::no_modulators;
-use modulators::value;
+use modulator_table::Modulators;
+use modulator_table::Slot;
+use modulator_table::no_modulators;
+use modulator_table::slot_value;
 
 pub struct Station {
     pub clocks: Clocks,
@@ -54,14 +58,6 @@ fn clock_infos(clocks: [Clock; 16]) -> ClockInfos
         i += 1;
     }
     infos
-}
-
-// The value that a slot shows.
-pub fn slot_value(s: Slot) -> f64
-    ensures { λ r. ⌜ r ≡ slotValue s ⌝ }
-{
-    let m = s.modulator;
-    value(m)
 }
 
 fn values_of(slots: [Slot; 16]) -> Values

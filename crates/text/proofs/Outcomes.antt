@@ -1,4 +1,5 @@
--- Any two outcomes that a statement allows coincide (`Rattle.doubles.proofs.Outcomes` has the law). Of `part`, which answers a part of the caller's slice, the bytes coincide. Assumes nothing.
+-- Any two outcomes that a statement allows coincide (`Rattle.doubles.proofs.Outcomes` has the law). Of `part`, which
+-- answers a part of the caller's slice, the bytes coincide. RULES, one-outcome. Assumes nothing.
 use mathlib.Core.Path.{_≡_}
 use contract.Lifetimes.{Lfts}
 use denote.Ref.{now}

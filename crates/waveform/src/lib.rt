@@ -1,7 +1,7 @@
-// Waveforms, as modulator/lfo.rs has them. The sine is absent until asked for.
+// Waveforms, as modulator/lfo.rs has them, but for its sine: RULES, scope.
 ghost use mathlib.Core.Path.{_≡_};
 ghost use Rattle.judge.specs.Answer.{toldFloat};
-ghost use Rattle.waveform.specs.Waves.{pulseOf, waveValueOf, waveFaults, waveOf};
+ghost use Rattle.waveform.specs.Waves.{pulseOf, waveValueOf, waveFaults, tryWaveValueOf};
 use judge::Faults;
 use judge::Floated;
 use judge::both;
@@ -15,7 +15,7 @@ pub enum Waveform {
     Pulse(f64),
 }
 
-// The wave at any phase. A negative phase gives waves up to 2 in size.
+// The wave at any phase. A negative one leads out of -1..1: RULES, negative-phase.
 pub fn wave_value(w: Waveform, phase: f64) -> f64
     ensures { λ r. ⌜ r ≡ waveValueOf w phase ⌝ }
 {
@@ -46,8 +46,8 @@ pub fn wave_faults(w: Waveform) -> Faults
     }
 }
 
-pub fn wave(w: Waveform, phase: f64) -> Floated
-    ensures { λ r. ⌜ toldFloat r ≡ waveOf w phase ⌝ }
+pub fn try_wave_value(w: Waveform, phase: f64) -> Floated
+    ensures { λ r. ⌜ toldFloat r ≡ tryWaveValueOf w phase ⌝ }
 {
     let n = first_fault(both(wave_faults(w), float_faults(phase)));
     if n != 0 {

@@ -1,4 +1,5 @@
--- `answers::float_value` is proved: a fixed value is its double, and a linked one its modulator and its mapping. Assumes nothing.
+-- `answers::float_value` is proved: a fixed value is its double, and a linked one its modulator and its mapping.
+-- Assumes nothing.
 use borrow.Author.Needs.{needs}
 use mathlib.Core.Path.{refl}
 use Rattle.answers.proofs.float_value.Statement.{statement}

@@ -1,4 +1,5 @@
--- `bench::all` is safe and ends: the buffers keep their lengths, and the count of turns falls. The loop's test and its invariant stand far back in `c`, so they are named by their paths. Assumes nothing.
+-- `bench::all` is safe and ends: the buffers keep their lengths, and the count of turns falls. The loop's test and its
+-- invariant stand far back in `c`, so they are named by their paths. Assumes nothing.
 use borrow.Author.Needs.{needs}
 use mathlib.Core.Path.{_≡_}
 use lib.ListN.{length}

@@ -1,4 +1,5 @@
--- `bench::gather` is safe and ends, and goes forward: the line's buffer keeps its length, each turn leaves a byte fewer of the portion, and the place is at `from`, where the loop begins, or behind it. Assumes nothing.
+-- `bench::gather` is safe and ends, and goes forward: the line's buffer keeps its length, each turn leaves a byte fewer
+-- of the portion, and the place is at `from`, where the loop begins, or behind it. Assumes nothing.
 use borrow.Author.Needs.{needs}
 use Prim.Native.Nat.{_-_, _≤_}
 use mathlib.Core.Path.{_≡_}

@@ -1,4 +1,5 @@
--- `tick` meets its contract: its test and the ticks that it takes are those of the definition, by what its callees give. Assumes nothing.
+-- `tick` meets its contract: its test and the ticks that it takes are those of the definition, by what its callees
+-- give. Assumes nothing.
 use borrow.Author.Needs.{needs}
 use mathlib.Core.Path.{sym, _∙_}
 use lib.Ieee.{ofBits}
@@ -8,14 +9,14 @@ use Rattle.clock.proofs.tick.Tie as tie
 
 returns : tie.Need-returns
 unfolding tickOf ofBits
-returns c = rw (← c .before .ticks-per-second .ensures, c .if1 .taken)
+returns c = rw (← c .before .as-ticks-per-second .ensures, c .if1 .taken)
 
 returns-2 : tie.Need-returns-2
 unfolding tickOf ofBits
 returns-2 c =
     let take = c .before .before in
     let from = take .before .before in
-    rw (← from .before .before .ticks-per-second .ensures, from .before .if1 .left, ← from .position .ensures, sym (take .take-ticks .ensures) ∙ c .enum-told .given .1)
+    rw (← from .before .before .as-ticks-per-second .ensures, from .before .if1 .left, ← from .position .ensures, sym (take .take-ticks .ensures) ∙ c .enum-told .given .1)
 
 returns-3 : tie.Need-returns-3
 unfolding tickOf ofBits
@@ -24,7 +25,7 @@ returns-3 c =
     let take = to .before .before in
     let from = take .before .before in
     rw (
-      ← from .before .before .ticks-per-second .ensures,
+      ← from .before .before .as-ticks-per-second .ensures,
       from .before .if1 .left,
       ← from .position .ensures,
       sym (take .take-ticks .ensures) ∙ to .to .given .1,

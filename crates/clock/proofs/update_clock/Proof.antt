@@ -1,4 +1,5 @@
--- `update_clock` meets its contract: the speed is what `update_speed` gives, and a ticking clock goes on by `tick`. Assumes nothing.
+-- `update_clock` meets its contract: the speed is what `update_speed` gives, and a ticking clock goes on by `tick`.
+-- Assumes nothing.
 use Rattle.clock.specs.OneClock.{updateClockOf}
 use Rattle.clock.proofs.update_clock.Statement.{statement}
 use Rattle.clock.proofs.update_clock.Tie as tie

@@ -1,4 +1,5 @@
--- `digits::put` is proved. The loop's invariant: the first i bytes stand in the buffer from the place on, and every other byte is as before. Assumes nothing.
+-- `digits::put` is proved. The loop's invariant: the first i bytes stand in the buffer from the place on, and every
+-- other byte is as before. Assumes nothing.
 use denote.Ref.{now}
 use Prim.Native.Nat.{_-_, _≤_}
 use native.Mathlib.Omega.{arith}

@@ -1,4 +1,5 @@
--- `id_in` is proved: with no colon there is nothing behind it to read, and else the two parts are the definition's own. Assumes nothing.
+-- `id_in` is proved: with no colon there is nothing behind it to read, and else the two parts are the definition's own.
+-- Assumes nothing.
 use denote.Ref.{now}
 use Prim.Native.Nat.{_+_}
 use native.Mathlib.Omega.{arith}

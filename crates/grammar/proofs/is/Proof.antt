@@ -1,4 +1,5 @@
--- `is` is proved: `same` answers whether the word and the name are one list, and so whether they have the same bytes. Assumes nothing.
+-- `is` is proved: `same` answers whether the word and the name are one list, and so whether they have the same bytes.
+-- Assumes nothing.
 use Rattle.grammar.proofs.Places.{same-told}
 use Rattle.grammar.proofs.is.Statement.{statement}
 use Rattle.grammar.proofs.is.Tie as tie

@@ -1,4 +1,5 @@
--- `speed_map` is proved: the two floats are read one behind the other, then the two speeds and the easing. Assumes nothing.
+-- `speed_map` is proved: the two floats are read one behind the other, then the two speeds and the easing. Assumes
+-- nothing.
 use mathlib.Core.Path.{sym, _∙_}
 use Rattle.grammar.specs.Grammar.{speedMapAt}
 use Rattle.grammar.proofs.speed_map.Statement.{statement}

@@ -1,4 +1,5 @@
--- `replies::show` is proved. The loop's invariant: the first i bytes are shown, and the others are as before. Assumes nothing.
+-- `replies::show` is proved. The loop's invariant: the first i bytes are shown, and the others are as before. Assumes
+-- nothing.
 use Prim.Native.Nat.{_-_, _≤_}
 use denote.Ref.{now}
 use native.Mathlib.Omega.{arith}

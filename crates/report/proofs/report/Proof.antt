@@ -1,37 +1,32 @@
--- `report::report` is proved: the clock that it tells of is the one in the slot found, and its lines fit into the buffer. Assumes nothing.
+-- `report::report` is proved: it tells of the clock looked up. Assumes nothing.
 use borrow.Author.Needs.{needs}
-use native.Mathlib.Omega.{arith}
-use mathlib.Core.Path.{sym, _∙_}
-use Rattle.clocks.proofs.Slots.{Living, living, below}
-use Rattle.report.specs.Reports.{reportOf}
-use Rattle.report.proofs.Fits.{too-small, written}
+use mathlib.Core.Path.{ap, _∙_}
+use Rattle.clock_table.proofs.Slots.{sixteen, slot-below, tells}
+use Rattle.report.specs.Reports.{reportText, intoBuffer, reportOf}
 use Rattle.report.proofs.report.Statement.{statement}
 use Rattle.report.proofs.report.Tie as tie
 
-abbrev start : tie.After-known-told → tie.Start
-start c = c .before .before .before .before .before .before
-
-lives : (c : tie.After-known-told) → Living (start c .args .t1) (start c .args .id) (c .before .i .given .0 .0)
-lives c = living (start c .good .0) (c .before .before .before .find .ensures) (c .before .i .given .1)
+in-table : tie.Need-fill-requires
+in-table c κs =
+    let told = c .before .before in
+    let looked = told .before .before in
+    let s = looked .before .before in
+    slot-below _ _ (sixteen (s .args .t) _ (s .good .0)) (looked .look .ensures) (told .c .given .1)
 
 returns : tie.Need-returns
 unfolding reportOf
-returns c = rw (sym (c .before .before .find .ensures) ∙ c .enum-told .given .1)
+returns c =
+    let filled = c .before .before in
+    let told = filled .before .before .before in
+    let looked = told .before .before in
+    filled .fill .ensures ∙ ap (intoBuffer _) (tells _ _ (looked .look .ensures) (told .c .given .1) (reportText (looked .before .before .args .id)))
 
 returns-2 : tie.Need-returns-2
 unfolding reportOf
-returns-2 c = too-small (lives (c .before)) _ (omega (arith, c .if1 .taken))
-
-returns-3 : tie.Need-returns-3
-unfolding reportOf
-returns-3 c =
-    let at = c .before .before .before in
-    let found = at .before .before .before .before in
-    written (lives (found .before)) _ _
-    (omega (arith, found .if1 .left))
-    (omega (arith, start (found .before) .good .1 .0 .1 .1 .1 .0 .1))
-    (rw (← at .position .ensures) (omega (arith, at .position .ok)))
-    (rw (at .before .started .ensures, at .position .ensures) at (c .before .before .lines .ensures))
+returns-2 c =
+    let told = c .before in
+    let looked = told .before .before in
+    ap (intoBuffer _) (tells _ _ (looked .look .ensures) (told .n .given .1) (reportText (looked .before .before .args .id)))
 
 pub report-spec : {M : Type 1} → statement M
 report-spec =
@@ -39,13 +34,8 @@ report-spec =
     (tie.spec
     (λ _ _. tt)
     (λ c. search needs)
+    in-table
+    (λ c. search needs)
     (λ c. search needs)
     returns
-    returns-2
-    (λ c. omega (arith, below (lives (c .before))))
-    (λ c. below (lives (c .before)))
-    (λ _ _. tt)
-    (λ _ _. tt)
-    (λ _ _. tt)
-    (λ c. c .before .before .lines .kept .0)
-    returns-3)
+    returns-2)

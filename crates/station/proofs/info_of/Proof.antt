@@ -1,4 +1,5 @@
--- `info_of` meets its contract: what is seen of the clocks and of the modulators is what `clock_infos` and `values_of` give. Assumes nothing.
+-- `info_of` meets its contract: what is seen of the clocks and of the modulators is what `clock_infos` and `values_of`
+-- give. Assumes nothing.
 use Rattle.station.specs.Stations.{infoIn}
 use Rattle.station.proofs.info_of.Statement.{statement}
 use Rattle.station.proofs.info_of.Tie as tie

@@ -2,7 +2,7 @@
 use borrow.Author.Needs.{needs}
 use Prim.Native.Nat.{_-_}
 use mathlib.Core.Path.{refl}
-use Rattle.station.specs.Stations.{slotValue}
+use Rattle.modulator_table.specs.ModulatorTables.{slotValue}
 use Rattle.station.proofs.Filled.{Filled, fill-none, fill-more, fill-all}
 use Rattle.station.proofs.values_of.Statement.{statement}
 use Rattle.station.proofs.values_of.Tie as tie

@@ -1,4 +1,5 @@
--- `wave_faults` meets its contract: a pulse's width is judged as a float, and nothing else is wrong with a wave. Assumes nothing.
+-- `wave_faults` meets its contract: a pulse's width is judged as a float, and nothing else is wrong with a wave.
+-- Assumes nothing.
 use borrow.Author.Needs.{needs}
 use Rattle.waveform.proofs.wave_faults.Statement.{statement}
 use Rattle.waveform.proofs.wave_faults.Tie as tie

@@ -40,7 +40,7 @@ returns-4 c =
       sym (e .before .before .ease .ensures) ∙ e .e .given .1,
       sym (x .before .before .float .ensures) ∙ x .x .given .1,
       sym (ended .before .ended .ensures) ∙ not-false (ended .before .ended .result) (ended .if1 .left),
-    ) (float-put _ (c .before .before .before .ease2 .result) (c .before .before .floated .ensures) (c .before .before .before .ease2 .ensures))
+    ) (float-put _ (c .before .before .before .try-apply .result) (c .before .before .floated .ensures) (c .before .before .before .try-apply .ensures))
 
 pub ease-spec : {M : Type 1} → statement M
 ease-spec =

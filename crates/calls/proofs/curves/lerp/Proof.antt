@@ -55,7 +55,7 @@ returns-5 c =
       sym (b .before .before .float2 .ensures) ∙ b .b .given .1,
       sym (amount .before .before .float3 .ensures) ∙ amount .amount .given .1,
       sym (ended .before .ended .ensures) ∙ not-false (ended .before .ended .result) (ended .if1 .left),
-    ) (float-put _ (c .before .before .before .lerp .result) (c .before .before .floated .ensures) (c .before .before .before .lerp .ensures))
+    ) (float-put _ (c .before .before .before .try-interpolate .result) (c .before .before .floated .ensures) (c .before .before .before .try-interpolate .ensures))
 
 pub lerp-spec : {M : Type 1} → statement M
 lerp-spec =

@@ -27,7 +27,7 @@ returns-3 c =
     rw (
       sym (ns .before .before .number .ensures) ∙ ns .ns .given .1,
       sym (ended .before .ended .ensures) ∙ not-false (ended .before .ended .result) (ended .if1 .left),
-    ) (float-put _ (c .before .before .before .secs .result) (c .before .before .floated .ensures) (c .before .before .before .secs .ensures))
+    ) (float-put _ (c .before .before .before .try-as-secs-f64 .result) (c .before .before .floated .ensures) (c .before .before .before .try-as-secs-f64 .ensures))
 
 pub secs-spec : {M : Type 1} → statement M
 secs-spec =

@@ -40,7 +40,7 @@ returns-4 c =
       sym (w .before .before .wave .ensures) ∙ w .w .given .1,
       sym (phase .before .before .float .ensures) ∙ phase .phase .given .1,
       sym (ended .before .ended .ensures) ∙ not-false (ended .before .ended .result) (ended .if1 .left),
-    ) (float-put _ (c .before .before .before .wave2 .result) (c .before .before .floated .ensures) (c .before .before .before .wave2 .ensures))
+    ) (float-put _ (c .before .before .before .try-wave-value .result) (c .before .before .floated .ensures) (c .before .before .before .try-wave-value .ensures))
 
 pub wave-spec : {M : Type 1} → statement M
 wave-spec =

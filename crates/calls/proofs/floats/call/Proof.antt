@@ -1,4 +1,5 @@
--- `floats::call` is proved: the double is read, the line ends behind it, and the name chooses the function. Assumes nothing.
+-- `floats::call` is proved: the double is read, the line ends behind it, and the name chooses the function. Assumes
+-- nothing.
 use mathlib.Core.Path.{refl, sym, _∙_}
 use borrow.Author.Tests.{not-true, not-false}
 use Rattle.calls.specs.Calls.{floatsOf}

@@ -43,7 +43,7 @@ returns-4 c =
       sym (lerp .before .is .ensures) ∙ lerp .if1 .left,
       sym (ended .before .ended .ensures) ∙ not-false (ended .before .ended .result) (ended .if2 .left),
       sym (spt .before .is2 .ensures) ∙ spt .if3 .taken,
-    ) (float-put _ (c .before .before .before .as-seconds-per-tick .result) (c .before .before .floated .ensures) (c .before .before .before .as-seconds-per-tick .ensures))
+    ) (float-put _ (c .before .before .before .try-as-seconds-per-tick .result) (c .before .before .floated .ensures) (c .before .before .before .try-as-seconds-per-tick .ensures))
 
 returns-5 : tie.Need-returns-5
 unfolding speedsOf
@@ -59,7 +59,7 @@ returns-5 c =
       sym (ended .before .ended .ensures) ∙ not-false (ended .before .ended .result) (ended .if2 .left),
       sym (spt .before .is2 .ensures) ∙ spt .if3 .left,
       sym (tps .before .is3 .ensures) ∙ tps .if4 .taken,
-    ) (float-put _ (c .before .before .before .as-ticks-per-second .result) (c .before .before .floated2 .ensures) (c .before .before .before .as-ticks-per-second .ensures))
+    ) (float-put _ (c .before .before .before .try-as-ticks-per-second .result) (c .before .before .floated2 .ensures) (c .before .before .before .try-as-ticks-per-second .ensures))
 
 returns-6 : tie.Need-returns-6
 unfolding speedsOf
@@ -77,7 +77,7 @@ returns-6 c =
       sym (spt .before .is2 .ensures) ∙ spt .if3 .left,
       sym (tps .before .is3 .ensures) ∙ tps .if4 .left,
       sym (tpm .before .is4 .ensures) ∙ tpm .if5 .taken,
-    ) (float-put _ (c .before .before .before .as-ticks-per-minute .result) (c .before .before .floated3 .ensures) (c .before .before .before .as-ticks-per-minute .ensures))
+    ) (float-put _ (c .before .before .before .try-as-ticks-per-minute .result) (c .before .before .floated3 .ensures) (c .before .before .before .try-as-ticks-per-minute .ensures))
 
 returns-7 : tie.Need-returns-7
 unfolding speedsOf

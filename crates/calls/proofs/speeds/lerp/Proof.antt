@@ -40,7 +40,7 @@ returns-4 c =
       sym (b .before .before .speed .ensures) ∙ b .b .given .1,
       sym (amount .before .before .float .ensures) ∙ amount .amount .given .1,
       sym (ended .before .ended .ensures) ∙ not-false (ended .before .ended .result) (ended .if1 .left),
-    ) (speed-put _ (c .before .before .before .lerp-speed .result) (c .before .before .speeded .ensures) (c .before .before .before .lerp-speed .ensures))
+    ) (speed-put _ (c .before .before .before .try-interpolate-speed .result) (c .before .before .speeded .ensures) (c .before .before .before .try-interpolate-speed .ensures))
 
 pub lerp-spec : {M : Type 1} → statement M
 lerp-spec =

@@ -1,4 +1,5 @@
--- `clock_command::run_clock` meets its contract: each arm's two calls are those that the definition names for its command. Assumes nothing.
+-- `clock_command::run_clock` meets its contract: each arm's two calls are those that the definition names for its
+-- command. Assumes nothing.
 use borrow.Author.Needs.{needs}
 use Rattle.commands.specs.ClockCommands.{runClockOf}
 use Rattle.commands.proofs.clock_command.run_clock.Statement.{statement}
@@ -26,7 +27,7 @@ returns-5 c = rw (c .done4 .ensures, c .before .reset-clock .ensures, c .before 
 
 returns-6 : tie.Need-returns-6
 unfolding runClockOf
-returns-6 c = rw (c .done5 .ensures, c .before .set-speed .ensures, c .before .before .before .c6 .given .1)
+returns-6 c = rw (c .done5 .ensures, c .before .set-clock-speed .ensures, c .before .before .before .c6 .given .1)
 
 returns-7 : tie.Need-returns-7
 unfolding runClockOf

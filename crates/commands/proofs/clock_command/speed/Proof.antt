@@ -1,4 +1,5 @@
--- `clock_command::speed` meets its contract: each arm is the case of the definition that its variant names. Assumes nothing.
+-- `clock_command::speed` meets its contract: each arm is the case of the definition that its variant names. Assumes
+-- nothing.
 use borrow.Author.Needs.{needs}
 use Rattle.commands.proofs.clock_command.speed.Statement.{statement}
 use Rattle.commands.proofs.clock_command.speed.Tie as tie

@@ -1,4 +1,5 @@
--- `clock_command::time` meets its contract: each arm is the case of the definition that its variant names. Assumes nothing.
+-- `clock_command::time` meets its contract: each arm is the case of the definition that its variant names. Assumes
+-- nothing.
 use borrow.Author.Needs.{needs}
 use Rattle.commands.proofs.clock_command.time.Statement.{statement}
 use Rattle.commands.proofs.clock_command.time.Tie as tie

@@ -1,4 +1,5 @@
--- `modulator_command::added` meets its contract: each arm answers what the name's variant says, beside the table. Assumes nothing.
+-- `modulator_command::added` meets its contract: each arm answers what the name's variant says, beside the table.
+-- Assumes nothing.
 use borrow.Author.Needs.{needs}
 use Rattle.commands.proofs.modulator_command.added.Statement.{statement}
 use Rattle.commands.proofs.modulator_command.added.Tie as tie

@@ -1,4 +1,5 @@
--- `modulator_command::run_modulator` meets its contract: each arm's two calls are those that the definition names for its command. Assumes nothing.
+-- `modulator_command::run_modulator` meets its contract: each arm's two calls are those that the definition names for
+-- its command. Assumes nothing.
 use borrow.Author.Needs.{needs}
 use Rattle.commands.specs.ModulatorCommands.{runModulatorOf}
 use Rattle.commands.proofs.modulator_command.run_modulator.Statement.{statement}

@@ -1,4 +1,5 @@
--- `modulator_command::value` meets its contract: each arm is the case of the definition that its variant names. Assumes nothing.
+-- `modulator_command::value` meets its contract: each arm is the case of the definition that its variant names. Assumes
+-- nothing.
 use borrow.Author.Needs.{needs}
 use Rattle.commands.proofs.modulator_command.value.Statement.{statement}
 use Rattle.commands.proofs.modulator_command.value.Tie as tie

@@ -1,8 +1,8 @@
 -- `due` meets its contract: its two tests, in its order, decide the definition. Assumes nothing.
 use mathlib.Core.Path.{_≡_, refl, sym, _∙_}
 use mathlib.Core.Bool.{Bool, _&&_, cond}
-use Rattle.time.specs.declared.ClockTime.{ClockTime}
-use Rattle.start_time.specs.declared.When.the-variants.{Now, Later}
+use Rattle.times.specs.declared.time.ClockTime.{ClockTime}
+use Rattle.times.specs.declared.start_time.When.the-variants.{Now, Later}
 use Rattle.info.specs.Infos.{reachedOf, dueOf}
 use Rattle.clock.specs.declared.ClockInfo.{ClockInfo}
 use Rattle.info.proofs.info.due.Statement.{statement}

@@ -1,4 +1,5 @@
--- `float_input` meets its contract: a fixed value has no modulator, and a link shows what `modulator_value` gives. Assumes nothing.
+-- `float_input` meets its contract: a fixed value has no modulator, and a link shows what `modulator_value` gives.
+-- Assumes nothing.
 use borrow.Author.Needs.{needs}
 use Rattle.info.proofs.info.float_input.Statement.{statement}
 use Rattle.info.proofs.info.float_input.Tie as tie

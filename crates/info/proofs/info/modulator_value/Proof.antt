@@ -1,14 +1,15 @@
--- `modulator_value` meets its contract: what `find` answers is what the definition looks up, and the value that is read is the one in the slot found. Assumes nothing.
+-- `modulator_value` meets its contract: what `find` answers is what the definition looks up, and the value that is read
+-- is the one in the slot found. Assumes nothing.
 use borrow.Author.Needs.{needs}
 use Prim.Native.Nat.{ℕ, _<_}
 use native.Mathlib.Omega.{arith}
 use mathlib.Core.Path.{_≡_, sym, _∙_}
 use lib.Ieee.{Float}
-use Rattle.tables.specs.Keys.{findOf}
-use Rattle.tables.specs.declared.Found.the-variants as found
-use Rattle.value.specs.declared.Input.the-variants as input
+use Rattle.ids.specs.Keys.{findOf}
+use Rattle.ids.specs.declared.Found.the-variants as found
+use Rattle.values.specs.declared.value.Input.the-variants as input
 use Rattle.info.specs.Infos.{modulatorValueOf}
-use Rattle.tables.proofs.Places.{found-below, found-read}
+use Rattle.ids.proofs.Places.{found-below, found-read}
 use Rattle.info.proofs.Lengths.{Sixteen, sixteen}
 use Rattle.info.proofs.info.modulator_value.Statement.{statement}
 use Rattle.info.proofs.info.modulator_value.Tie as tie

@@ -1,4 +1,5 @@
--- `reached` meets its contract: the order that it asks for is the definition's, and each arm is the case that the order names. Assumes nothing.
+-- `reached` meets its contract: the order that it asks for is the definition's, and each arm is the case that the order
+-- names. Assumes nothing.
 use borrow.Author.Needs.{needs}
 use mathlib.Core.Path.{_≡_, sym, ap, _∙_}
 use Rattle.info.specs.Infos.{atOrPast, reachedOf}

@@ -1,4 +1,5 @@
--- `speed_input` meets its contract: a fixed value has no modulator, and a link shows what `modulator_value` gives. Assumes nothing.
+-- `speed_input` meets its contract: a fixed value has no modulator, and a link shows what `modulator_value` gives.
+-- Assumes nothing.
 use borrow.Author.Needs.{needs}
 use Rattle.info.proofs.info.speed_input.Statement.{statement}
 use Rattle.info.proofs.info.speed_input.Tie as tie

@@ -1,4 +1,5 @@
--- `start_due` meets its contract: each arm is the case of the definition that its variant names, a clock time by `when_to_start`. Assumes nothing.
+-- `start_due` meets its contract: each arm is the case of the definition that its variant names, a clock time by
+-- `when_to_start`. Assumes nothing.
 use borrow.Author.Needs.{needs}
 use Rattle.info.proofs.info.start_due.Statement.{statement}
 use Rattle.info.proofs.info.start_due.Tie as tie

@@ -1,14 +1,15 @@
--- `when_to_start` meets its contract: what `find` answers is what the definition looks up, and the clock that is read is the one in the slot found. Assumes nothing.
+-- `when_to_start` meets its contract: what `find` answers is what the definition looks up, and the clock that is read
+-- is the one in the slot found. Assumes nothing.
 use borrow.Author.Needs.{needs}
 use Prim.Native.Nat.{ℕ, _<_}
 use native.Mathlib.Omega.{arith}
 use mathlib.Core.Path.{_≡_, sym, _∙_}
-use Rattle.tables.specs.Keys.{findOf}
-use Rattle.tables.specs.declared.Found.the-variants as found
-use Rattle.start_time.specs.declared.When.the-variants.{Never}
+use Rattle.ids.specs.Keys.{findOf}
+use Rattle.ids.specs.declared.Found.the-variants as found
+use Rattle.times.specs.declared.start_time.When.the-variants.{Never}
 use Rattle.info.specs.Infos.{dueOf, whenToStartOf}
 use Rattle.clock.specs.declared.ClockInfo.{ClockInfo}
-use Rattle.tables.proofs.Places.{found-below, found-read}
+use Rattle.ids.proofs.Places.{found-below, found-read}
 use Rattle.info.proofs.Lengths.{Sixteen, sixteen}
 use Rattle.info.proofs.info.when_to_start.Statement.{statement}
 use Rattle.info.proofs.info.when_to_start.Tie as tie

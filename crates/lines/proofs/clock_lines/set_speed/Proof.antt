@@ -1,4 +1,5 @@
--- `clock_lines::set_speed` is proved: the id, the speed and the tween are read, and the line ends behind them. Assumes nothing.
+-- `clock_lines::set_speed` is proved: the id, the speed and the tween are read, and the line ends behind them. Assumes
+-- nothing.
 use mathlib.Core.Path.{sym, _∙_}
 use borrow.Author.Tests.{not-true, not-false}
 use Rattle.lines.specs.ClockLines.{setSpeedLine}

@@ -1,4 +1,5 @@
--- `modulator_lines::by_id` is proved: the name chooses the call, and the line of the last two ends behind the id. Assumes nothing.
+-- `modulator_lines::by_id` is proved: the name chooses the call, and the line of the last two ends behind the id.
+-- Assumes nothing.
 use mathlib.Core.Path.{refl, sym, _∙_}
 use borrow.Author.Tests.{not-true, not-false}
 use Rattle.lines.specs.ModulatorLines.{byIdLine}

@@ -1,4 +1,5 @@
--- `modulator_lines::modulator_line` is proved: the name chooses the call, and all but two have an id first. Assumes nothing.
+-- `modulator_lines::modulator_line` is proved: the name chooses the call, and all but two have an id first. Assumes
+-- nothing.
 use mathlib.Core.Path.{refl, sym, _∙_}
 use Rattle.lines.specs.ModulatorLines.{modulatorLine}
 use Rattle.lines.proofs.modulator_lines.modulator_line.Statement.{statement}

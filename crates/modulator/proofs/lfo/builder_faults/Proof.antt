@@ -1,4 +1,5 @@
--- `builder_faults` meets its contract: it joins the faults of the waveform, of the phase and of the three values. Assumes nothing.
+-- `builder_faults` meets its contract: it joins the faults of the waveform, of the phase and of the three values.
+-- Assumes nothing.
 use Rattle.judge.proofs.Judged.{joined}
 use Rattle.modulator.proofs.lfo.builder_faults.Statement.{statement}
 use Rattle.modulator.proofs.lfo.builder_faults.Tie as tie

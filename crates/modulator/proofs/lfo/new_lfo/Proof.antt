@@ -1,4 +1,5 @@
--- `new_lfo` meets its contract: each parameter is what `new_float` gives at its default, and the phase what `turns` gives. Assumes nothing.
+-- `new_lfo` meets its contract: each parameter is what `new_float` gives at its default, and the phase what `turns`
+-- gives. Assumes nothing.
 use lib.Ieee.{ofBits}
 use Rattle.modulator.proofs.lfo.new_lfo.Statement.{statement}
 use Rattle.modulator.proofs.lfo.new_lfo.Tie as tie

@@ -1,4 +1,5 @@
--- `update_lfo` meets its contract: the parameters are what `seen` gives of each, and the phase and the value are computed from them as the definition does. Assumes nothing.
+-- `update_lfo` meets its contract: the parameters are what `seen` gives of each, and the phase and the value are
+-- computed from them as the definition does. Assumes nothing.
 use Rattle.modulator.specs.Lfos.{updateLfoOf}
 use lib.Ieee.{ofBits}
 use Rattle.modulator.proofs.lfo.update_lfo.Statement.{statement}

@@ -1,4 +1,5 @@
--- `update_tweener` meets its contract: a tweener at rest is as it was, and one under way is what `moved` gives. Assumes nothing.
+-- `update_tweener` meets its contract: a tweener at rest is as it was, and one under way is what `moved` gives. Assumes
+-- nothing.
 use borrow.Author.Needs.{needs}
 use Rattle.modulator.specs.Tweeners.{updateTweenerOf}
 use Rattle.modulator.proofs.tweener.update_tweener.Statement.{statement}

@@ -1,2 +1,0 @@
-pub mod Speeds
-pub mod RunningSpeeds

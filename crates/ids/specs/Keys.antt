@@ -1,0 +1,72 @@
+-- Document 01, "Names that cannot be shared": slots, generations, and which ids live. A table's keys are a list, a key
+-- for each slot. Assumes nothing.
+use Prim.Native.Nat.{ℕ, zero, suc, _+_, _≤_}
+use mathlib.Core.Bool.{Bool, true, false, not, _&&_, cond}
+use mathlib.Core.Path.{_≡_}
+use mathlib.Core.Logic.{_⊎_}
+use mathlib.Core.List.{List, [], _∷_}
+use lib.ListN.{set}
+use lib.Dec.{ltb, eqb}
+use Rattle.ids.specs.Lists.{readAt}
+use Rattle.ids.specs.declared.Key.{Key}
+use Rattle.ids.specs.declared.Room.{Room}
+use Rattle.ids.specs.declared.Room.the-variants as room
+use Rattle.ids.specs.declared.Found.{Found}
+use Rattle.ids.specs.declared.Found.the-variants as found
+
+-- neither in use nor used up: RULES, retired-slot
+abbrev pub isFree : Key → Bool
+isFree k = not (k .used) && ltb (k .generation) 4294967295
+
+-- the slot that an add takes and the generation that it gives, of keys whose first has the number i:
+-- RULES, lowest-free-slot and generation
+unfoldable pub freeOf : ℕ → List Key → Room
+freeOf i [] = room.Nothing
+freeOf i (k ∷ ks) = cond (isFree k) (room.At i (k .generation + 1)) (freeOf (i + 1) ks)
+
+-- the slot is in use, at the id's own generation: RULES, living-id
+unfoldable pub livesIn : List Key → ℕ → ℕ → Bool
+livesIn [] i g = false
+livesIn (k ∷ ks) zero g = k .used && eqb (k .generation) g
+livesIn (k ∷ ks) (suc i) g = livesIn ks i g
+
+-- where an id lives: RULES, id
+unfoldable pub findOf : List Key → ℕ → ℕ → Found
+findOf ks slot g = cond (livesIn ks slot g) (found.At slot) found.Nothing
+
+-- a key as an accepted add leaves it
+abbrev pub takenAt : ℕ → Key
+takenAt g = record { used = true; generation = g }
+
+-- and as a removal leaves it: RULES, removal
+abbrev pub leftAt : ℕ → Key
+leftAt g = record { used = false; generation = g }
+
+-- whether a slot is in use; none past the table's end is
+abbrev pub usedAt : List Key → ℕ → Bool
+usedAt = readAt false (λ k. k .used)
+
+-- the last generation that a slot gave, 0 where it gave none and past the table's end: RULES, slots
+abbrev pub generationAt : List Key → ℕ → ℕ
+generationAt = readAt 0 (λ k. k .generation)
+
+-- a slot that no add takes, in use or retired: RULES, retired-slot
+abbrev pub Closed : List Key → ℕ → Type 0
+Closed ks i = (usedAt ks i ≡ true) ⊎ (4294967295 ≤ generationAt ks i)
+
+-- an id that was given, as its slot's generation tells, and does not live; generation 0, which none is given, counts
+-- too
+pub record Spent (ks : List Key) (i g : ℕ) : Type 0 where
+  pub given : g ≤ generationAt ks i
+  pub dead : livesIn ks i g ≡ false
+
+-- a slot in use gave 1 or more, and none gave more than 4,294,967,295: RULES, generation
+pub record Numbered (ks : List Key) : Type 0 where
+  pub first : (i : ℕ) → usedAt ks i ≡ true → 1 ≤ generationAt ks i
+  pub last : (i : ℕ) → generationAt ks i ≤ 4294967295
+
+-- the second keys are what adds and removals, in any number and order, make of the first
+pub data Later : List Key → List Key → Type 0 where
+  same : {ks : List Key} → Later ks ks
+  added : {ks ls : List Key} (i g : ℕ) → freeOf 0 ks ≡ room.At i g → Later (set ks i (takenAt g)) ls → Later ks ls
+  removed : {ks ls : List Key} (i g : ℕ) → livesIn ks i g ≡ true → Later (set ks i (leftAt g)) ls → Later ks ls

@@ -1,0 +1,50 @@
+-- What a set makes of one modulator, and the four sets as one. Assumes nothing.
+use Prim.Native.Nat.{ℕ}
+use mathlib.Core.Bool.{Bool, true, false, cond}
+use Rattle.ids.specs.Tables.{whereIs}
+use Rattle.values.specs.declared.value.ModulatorId.{ModulatorId}
+use Rattle.modulator.specs.Tweeners.{tweenerToOf}
+use Rattle.modulator.specs.Lfos.{withWaveOf, withPhaseOf}
+use Rattle.modulator.specs.declared.tweener.Tweener.{Tweener}
+use Rattle.modulator.specs.declared.lfo.Lfo.{Lfo}
+use Rattle.modulator_table.specs.ModulatorTables.{modulatorTable, onModulator, parameterBy}
+use Rattle.modulator_table.specs.Entries.{settledAt}
+use Rattle.modulator_table.specs.declared.Modulator.{Modulator}
+use Rattle.modulator_table.specs.declared.Modulator.the-variants.{OfTweener, OfLfo}
+use Rattle.modulator_table.specs.declared.Modulators.{Modulators}
+use Rattle.modulator_table.specs.declared.ModulatorDone.{ModulatorDone}
+use Rattle.modulator_table.specs.declared.Asked.{Asked}
+use Rattle.modulator_table.specs.declared.Asked.the-variants as asked
+
+abbrev pub isLfo : Modulator → Bool
+isLfo (OfTweener w) = false
+isLfo (OfLfo l) = true
+
+-- NO_SUCH where the set is for the other kind, or else n: RULES, no-such
+abbrev pub refusalOf : Bool → Asked → ℕ → ℕ
+refusalOf lfo (asked.Target x w) n = cond lfo 7 n
+refusalOf lfo (asked.Parameter k v w) n = cond lfo n 7
+refusalOf lfo (asked.Wave w) n = cond lfo n 7
+refusalOf lfo (asked.Phase x) n = cond lfo n 7
+
+-- what is for an LFO leaves a tweener
+abbrev pub tweenerBy : Tweener → Asked → Tweener
+tweenerBy t (asked.Target x w) = tweenerToOf x w t
+tweenerBy t (asked.Parameter k v w) = t
+tweenerBy t (asked.Wave w) = t
+tweenerBy t (asked.Phase x) = t
+
+-- what is for a tweener leaves an LFO
+abbrev pub lfoBy : Lfo → Asked → Lfo
+lfoBy l (asked.Target x w) = l
+lfoBy l (asked.Parameter k v w) = parameterBy l k v w
+lfoBy l (asked.Wave w) = withWaveOf w l
+lfoBy l (asked.Phase x) = withPhaseOf x l
+
+abbrev pub modulatorBy : Modulator → Asked → Modulator
+modulatorBy (OfTweener w) a = OfTweener (tweenerBy w a)
+modulatorBy (OfLfo l) a = OfLfo (lfoBy l a)
+
+-- a set with the number n of its first fault
+unfoldable pub setBy : Modulators → ModulatorId → Asked → ℕ → ModulatorDone
+setBy t id a n = onModulator t (whereIs modulatorTable t id) (λ i m. settledAt t i (refusalOf (isLfo m) a n) (modulatorBy m a))

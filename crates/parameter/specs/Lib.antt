@@ -1,0 +1,3 @@
+pub mod Courses
+pub mod FloatParameters
+pub mod SpeedParameters

@@ -1,5 +1,0 @@
--- Laws that the crates above cite: `Places` on what a lookup and a search answer, `Names` on ids, `Outcomes` on the statements themselves. `Searches` has what the proofs of `find` and `free` share.
-pub mod Places
-pub mod Names
-pub mod Outcomes
-mod Searches

@@ -1,2 +1,0 @@
-pub mod Keys
-pub mod Lists

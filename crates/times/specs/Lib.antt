@@ -1,0 +1,4 @@
+pub mod Durations
+pub mod Times
+pub mod Starts
+pub mod Easings

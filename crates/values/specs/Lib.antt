@@ -1,0 +1,4 @@
+pub mod Tweenables
+pub mod Speeds
+pub mod RunningSpeeds
+pub mod Values
