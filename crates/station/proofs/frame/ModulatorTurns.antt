@@ -13,11 +13,10 @@ use denote.Struct.Declared.{row}
 use Rattle.ids.specs.declared.Key.{Key}
 use Rattle.ids.proofs.Places.{read-at}
 use Rattle.info.specs.declared.info.Info.{Info}
-use Rattle.modulator_table.specs.ModulatorTables.{slotOf}
+use Rattle.modulator_table.specs.ModulatorTables.{slotOf, slotValue}
 use Rattle.modulator_table.specs.declared.Slot.{Slot}
 use Rattle.modulator_table.specs.declared.Modulators.{Modulators}
 use Rattle.modulator_table.proofs.Modulators.{the-type}
-use Rattle.modulator_table.specs.ModulatorTables.{slotValue}
 use Rattle.station.specs.Turns.{turnModulator, turnSlot}
 use Rattle.station.specs.Frames.{seeing, modulatorTurn, modulatorTurns, turned, modulatorsTurned}
 use Rattle.station.specs.declared.frame.ModulatorsTurned.{ModulatorsTurned}
