@@ -1,87 +1,92 @@
-// The program's own part: which part of its state a line is for, by its name. Proved safe, with no
-// equations: docs/EXCEPTIONS.md says why.
+// The program's own part: a line that was heard. Its name is looked up once, here. Proved safe, with no equations:
+// docs/EXCEPTIONS.md says why.
+use names::Call;
+use names::ParameterCall;
+use names::call_of;
 use text::Word;
 
-// Nothing: the line asks nothing of the state. None: it is no call.
+// What a call is for, of what the program holds. Seen: the station, which it leaves as it is.
 pub enum Part {
-    New,
+    All,
     Station,
-    Floats,
-    Speeds,
+    Seen,
+    Floats(ParameterCall),
+    Speeds(ParameterCall),
     Nothing,
-    None,
 }
 
-// A line that was heard: whether to go on, and what it asks of the state: its bytes, its name, for which part
-// it is, and whether it is the update of a parameter.
+// A line's bytes, the call that it names and the place behind the name; and whether it gets no answer.
 pub struct Heard {
-    pub open: bool,
+    pub silent: bool,
     pub bytes: Word,
-    pub name: Word,
-    pub part: Part,
-    pub update: bool,
+    pub call: Call,
+    pub at: usize,
 }
 
-// A line that asks nothing of the state.
-pub fn silent(open: bool) -> Heard {
-    let none = Word { from: 0, to: 0 };
+// Nothing that is a call: a line to skip or none yet, which gets no answer, or an error.
+pub fn no_call(silent: bool) -> Heard {
     Heard {
-        open,
-        bytes: none,
-        name: none,
-        part: Part::Nothing,
-        update: false,
+        silent,
+        bytes: Word { from: 0, to: 0 },
+        call: Call::None,
+        at: 0,
     }
 }
 
-// Whether a word begins with these bytes.
-pub fn begins(line: &[u8], name: Word, head: &[u8]) -> bool {
-    if name.to < name.from {
-        return false;
-    }
-    if name.to - name.from < head.len() {
-        return false;
-    }
-    let cut = Word {
-        from: name.from,
-        to: name.from + head.len(),
-    };
-    grammar::is(line, cut, head)
-}
-
-fn part_of(line: &[u8], name: Word) -> Part {
-    if begins(line, name, b"fp.") {
-        return Part::Floats;
-    }
-    if begins(line, name, b"sp.") {
-        return Part::Speeds;
-    }
-    if !grammar::is(line, name, b"new") {
-        return Part::Station;
-    }
-    if grammar::ended(line, name.to) {
-        return Part::New;
-    }
-    Part::None
-}
-
-fn updates(line: &[u8], name: Word) -> bool {
-    if grammar::is(line, name, b"fp.up") {
+// Whether a line is skipped: it has no word, or its first byte is a `#`.
+fn skipped(line: &[u8], first: Word) -> bool {
+    if first.from == first.to {
         return true;
     }
-    grammar::is(line, name, b"sp.up")
+    if line.len() == 0 {
+        return true;
+    }
+    line[0] == b'#'
 }
 
-// What a line asks of the state.
-pub fn asks(line: &[u8], name: Word) -> Heard {
+// The call that a word names; `new` is one only where nothing is behind it.
+fn named(line: &[u8], name: Word) -> Call {
+    let call = call_of(text::part(line, name));
+    let Call::New = call else {
+        return call;
+    };
+    if grammar::ended(line, name.to) {
+        return Call::New;
+    }
+    Call::None
+}
+
+pub fn hear(line: &[u8]) -> Heard {
+    let name = text::next_word(line, 0);
+    if skipped(line, name) {
+        return no_call(true);
+    }
     Heard {
-        open: true,
+        silent: false,
         bytes: Word {
             from: 0,
             to: line.len(),
         },
-        name,
-        part: part_of(line, name),
-        update: updates(line, name),
+        call: named(line, name),
+        at: name.to,
+    }
+}
+
+pub fn part_of(call: Call) -> Part {
+    match call {
+        Call::New => Part::All,
+        Call::Frame => Part::Station,
+        Call::AddClock => Part::Station,
+        Call::SetClockSpeed => Part::Station,
+        Call::OneClock(_) => Part::Station,
+        Call::AddTweener => Part::Station,
+        Call::AddLfo => Part::Station,
+        Call::OneModulator(_) => Part::Station,
+        Call::Limit(_) => Part::Station,
+        Call::Report => Part::Seen,
+        Call::Question(_) => Part::Seen,
+        Call::FloatParameter(c) => Part::Floats(c),
+        Call::SpeedParameter(c) => Part::Speeds(c),
+        _ => Part::Nothing,
     }
 }

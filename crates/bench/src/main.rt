@@ -1,27 +1,24 @@
 // The bench: calls on standard input, one a line, each answered with a line on standard output.
 // docs/BENCH.md has the calls. Input has no cap: it is taken in portions, and what has been read is
 // answered before more is read.
-mod answer;
-mod clockcalls;
 mod families;
 mod heard;
 mod holds;
-mod modulatorcalls;
-mod state;
-mod stationcalls;
+mod limits;
+mod questions;
+mod station_calls;
 
 ghost use Prim.Native.Nat.{_<_};
 ghost use lib.ListN.{length};
-use crate::answer::answered;
-use crate::answer::seen;
 use crate::heard::Heard;
-use crate::heard::silent;
+use crate::heard::Part;
+use crate::heard::no_call;
+use crate::heard::part_of;
+use crate::holds::floats;
 use crate::holds::floats::no_floats;
+use crate::holds::speeds;
 use crate::holds::speeds::no_speeds;
-use crate::state::floats_after;
-use crate::state::speeds_after;
-use crate::stationcalls::after::begun;
-use crate::stationcalls::after::station_after;
+use station::fresh;
 use text::Word;
 
 // The longest line, its LF not counted, and a count that stands for a longer one.
@@ -82,19 +79,19 @@ fn gather(line: &mut [u8], held: usize, portion: &[u8], from: usize) -> Gathered
 }
 
 // Hears a whole line.
-fn hear(line: &[u8], count: usize, out: &mut [u8]) -> Heard {
+fn hear(line: &[u8], count: usize) -> Heard {
     if LONGEST < count {
-        return silent(answer::error());
+        return no_call(false);
     }
     if line.len() < count {
-        return silent(answer::error());
+        return no_call(false);
     }
-    answer::line(&line[0..count], out)
+    heard::hear(&line[0..count])
 }
 
 // Reads once. Where the input has ended, or cannot be read, a last line that has no LF is heard, since it is a
 // call too.
-fn read(line: &[u8], portion: &mut [u8], out: &mut [u8], r: Reading) -> Reading {
+fn read(line: &[u8], portion: &mut [u8], r: Reading) -> Reading {
     let got = libc::read(0, portion);
     if got <= 0 {
         return Reading {
@@ -102,7 +99,7 @@ fn read(line: &[u8], portion: &mut [u8], out: &mut [u8], r: Reading) -> Reading 
             at: 0,
             to: 0,
             ended: true,
-            heard: hear(line, r.count, out),
+            heard: hear(line, r.count),
         };
     }
     Reading {
@@ -110,12 +107,12 @@ fn read(line: &[u8], portion: &mut [u8], out: &mut [u8], r: Reading) -> Reading 
         at: 0,
         to: io::count(got, portion),
         ended: false,
-        heard: silent(true),
+        heard: no_call(true),
     }
 }
 
 // Takes the portion's bytes up to a line's end, and hears the line.
-fn take(line: &mut [u8], portion: &[u8], out: &mut [u8], r: Reading) -> Reading {
+fn take(line: &mut [u8], portion: &[u8], r: Reading) -> Reading {
     let at = r.at;
     let bytes = text::part(portion, Word { from: 0, to: r.to });
     if bytes.len() <= at {
@@ -124,7 +121,7 @@ fn take(line: &mut [u8], portion: &[u8], out: &mut [u8], r: Reading) -> Reading 
             at: 0,
             to: 0,
             ended: false,
-            heard: silent(true),
+            heard: no_call(true),
         };
     }
     let g = gather(line, r.count, bytes, at);
@@ -134,7 +131,7 @@ fn take(line: &mut [u8], portion: &[u8], out: &mut [u8], r: Reading) -> Reading 
             at: g.at,
             to: r.to,
             ended: false,
-            heard: silent(true),
+            heard: no_call(true),
         };
     }
     Reading {
@@ -142,16 +139,16 @@ fn take(line: &mut [u8], portion: &[u8], out: &mut [u8], r: Reading) -> Reading 
         at: g.at,
         to: r.to,
         ended: false,
-        heard: hear(line, g.count, out),
+        heard: hear(line, g.count),
     }
 }
 
 // Goes on to the next line's end, or the portion's. Reads where the portion is used up.
-fn next(line: &mut [u8], portion: &mut [u8], out: &mut [u8], r: Reading) -> Reading {
+fn next(line: &mut [u8], portion: &mut [u8], r: Reading) -> Reading {
     if r.at < r.to {
-        return take(line, portion, out, r);
+        return take(line, portion, r);
     }
-    read(line, portion, out, r)
+    read(line, portion, r)
 }
 
 // Nothing is read.
@@ -161,8 +158,22 @@ fn start() -> Reading {
         at: 0,
         to: 0,
         ended: false,
-        heard: silent(true),
+        heard: no_call(true),
     }
+}
+
+// Writes a line's answer, given its length, which is 0 where the line is no call, and says whether that was done.
+fn answered(out: &[u8], silent: bool, n: usize) -> bool {
+    if silent {
+        return true;
+    }
+    if n == 0 {
+        return io::write_all(1, b"error\n");
+    }
+    if out.len() < n {
+        return false;
+    }
+    io::write_all(1, &out[0..n])
 }
 
 // The turns that are left: none where an answer could not be written, or the input has ended.
@@ -181,21 +192,42 @@ fn fewer(turns: u64, open: bool, ended: bool) -> u64
 
 // A proved loop ends, and nothing says that the input does: it counts down from a number that no run uses up.
 fn all(line: &mut [u8], portion: &mut [u8], out: &mut [u8]) {
-    let mut station = begun(0);
+    let mut station = fresh();
     let mut floats = no_floats();
     let mut speeds = no_speeds();
     let mut r = start();
     let mut turns = u64::MAX;
     while turns > 0 {
-        r = next(line, portion, out, r);
+        r = next(line, portion, r);
         let h = r.heard;
+        let call = h.call;
         let asked = text::part(line, h.bytes);
-        station = station_after(asked, h, out, station);
-        let info = seen(h, station);
-        floats = floats_after(asked, h, out, floats, info);
-        speeds = speeds_after(asked, h, out, speeds, info);
-        let open = answered(out, h, station.n, floats.n, speeds.n);
-        turns = fewer(turns, open, r.ended);
+        let n = match part_of(call) {
+            Part::All => {
+                station = fresh();
+                floats = no_floats();
+                speeds = no_speeds();
+                replies::ok(out)
+            }
+            Part::Station => {
+                let acted = station_calls::on(asked, h.at, call, out, station);
+                station = acted.station;
+                acted.n
+            }
+            Part::Floats(c) => {
+                let acted = floats::on(asked, h.at, c, out, floats, station);
+                floats = acted.floats;
+                acted.n
+            }
+            Part::Speeds(c) => {
+                let acted = speeds::on(asked, h.at, c, out, speeds, station);
+                speeds = acted.speeds;
+                acted.n
+            }
+            Part::Seen => questions::call(asked, h.at, call, out, station),
+            Part::Nothing => families::call(asked, h.at, call, out),
+        };
+        turns = fewer(turns, answered(out, h.silent, n), r.ended);
     }
 }
 

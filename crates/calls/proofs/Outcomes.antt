@@ -6,14 +6,19 @@ use Rattle.calls.proofs.floats.call.Reads as floats
 use Rattle.calls.proofs.floats.call.Kinds as floats-kinds
 use Rattle.calls.proofs.curves.call.Reads as curves
 use Rattle.calls.proofs.curves.call.Kinds as curves-kinds
+use Rattle.calls.proofs.speeds.lerp.Reads as lerp
+use Rattle.calls.proofs.speeds.lerp.Kinds as lerp-kinds
 use Rattle.calls.proofs.speeds.call.Reads as speeds
 use Rattle.calls.proofs.speeds.call.Kinds as speeds-kinds
 
-pub one-floats : Same 2 floats-kinds.ps floats-kinds.r floats.Post (λ κs s. now (s .1 .1 .0))
+pub one-floats : Same 2 floats-kinds.ps floats-kinds.r floats.Post (λ κs s. now (s .1 .1 .1 .0))
 one-floats κs a x y s t = same
 
-pub one-curves : Same 2 curves-kinds.ps curves-kinds.r curves.Post (λ κs s. now (s .1 .1 .0))
+pub one-curves : Same 2 curves-kinds.ps curves-kinds.r curves.Post (λ κs s. now (s .1 .1 .1 .0))
 one-curves κs a x y s t = same
 
-pub one-speeds : Same 2 speeds-kinds.ps speeds-kinds.r speeds.Post (λ κs s. now (s .1 .1 .0))
+pub one-speed-lerp : Same 2 lerp-kinds.ps lerp-kinds.r lerp.Post (λ κs s. now (s .1 .1 .0))
+one-speed-lerp κs a x y s t = same
+
+pub one-speeds : Same 2 speeds-kinds.ps speeds-kinds.r speeds.Post (λ κs s. now (s .1 .1 .1 .0))
 one-speeds κs a x y s t = same

@@ -5,7 +5,6 @@ use mathlib.Core.Bool.{cond}
 use mathlib.Core.List.{List, [], _∷_, _++_}
 use lib.Ieee.{Float}
 use Rattle.doubles.specs.Doubles.{wholeOf, fractOf, ceilOf, absOf, clampOf}
-use Rattle.text.specs.declared.Word.{Word}
 use Rattle.judge.specs.Answer.{Answer, accepted, refused}
 use Rattle.times.specs.Durations.{trySecondsOf}
 use Rattle.values.specs.Speeds.{trySptOf, tryTpsOf, tryTpmOf, tryInterpolateSpeedOf}
@@ -15,70 +14,18 @@ use Rattle.times.specs.Easings.{tryApplyOf, defaultTween}
 use Rattle.waveform.specs.Waves.{tryWaveValueOf}
 use Rattle.times.specs.declared.tween.Tween.{Tween}
 use Rattle.waveform.specs.declared.Waveform.{Waveform}
-use Rattle.grammar.specs.Grammar.{named, endedAt, floatAt, numberAt, speedAt, easeAt, waveAt, withFloat, withNumber, withSpeed, withEase}
+use Rattle.grammar.specs.Grammar.{endedAt, floatAt, numberAt, speedAt, easeAt, waveAt, withFloat, withNumber, withSpeed, withEase}
 use Rattle.grammar.specs.declared.WaveAt.{WaveAt}
 use Rattle.grammar.specs.declared.WaveAt.the-variants as waved
+use Rattle.names.specs.declared.DoubleCall.{DoubleCall}
+use Rattle.names.specs.declared.DoubleCall.the-variants as double
+use Rattle.names.specs.declared.CurveCall.{CurveCall}
+use Rattle.names.specs.declared.CurveCall.the-variants as curve
+use Rattle.names.specs.declared.SpeedCall.{SpeedCall}
+use Rattle.names.specs.declared.SpeedCall.the-variants as speed
 use Rattle.answers.specs.Answers.{blank, speedText, easeText, startText, refusedText}
 use Rattle.digits.specs.Digits.{floatText, numberText}
 use Rattle.digits.specs.Puts.{lineOf}
-
--- ---- the calls' names, each by its bytes
-
--- "f.trunc"
-abbrev pub «fTrunc» : List ℕ
-«fTrunc» = 0x66 ∷ 0x2e ∷ 0x74 ∷ 0x72 ∷ 0x75 ∷ 0x6e ∷ 0x63 ∷ []
-
--- "f.fract"
-abbrev pub «fFract» : List ℕ
-«fFract» = 0x66 ∷ 0x2e ∷ 0x66 ∷ 0x72 ∷ 0x61 ∷ 0x63 ∷ 0x74 ∷ []
-
--- "f.ceil"
-abbrev pub «fCeil» : List ℕ
-«fCeil» = 0x66 ∷ 0x2e ∷ 0x63 ∷ 0x65 ∷ 0x69 ∷ 0x6c ∷ []
-
--- "f.abs"
-abbrev pub «fAbs» : List ℕ
-«fAbs» = 0x66 ∷ 0x2e ∷ 0x61 ∷ 0x62 ∷ 0x73 ∷ []
-
--- "f.clamp"
-abbrev pub «fClamp» : List ℕ
-«fClamp» = 0x66 ∷ 0x2e ∷ 0x63 ∷ 0x6c ∷ 0x61 ∷ 0x6d ∷ 0x70 ∷ []
-
--- "ease"
-abbrev pub «ease» : List ℕ
-«ease» = 0x65 ∷ 0x61 ∷ 0x73 ∷ 0x65 ∷ []
-
--- "lerp"
-abbrev pub «lerp» : List ℕ
-«lerp» = 0x6c ∷ 0x65 ∷ 0x72 ∷ 0x70 ∷ []
-
--- "wave"
-abbrev pub «wave» : List ℕ
-«wave» = 0x77 ∷ 0x61 ∷ 0x76 ∷ 0x65 ∷ []
-
--- "dur.secs"
-abbrev pub «durSecs» : List ℕ
-«durSecs» = 0x64 ∷ 0x75 ∷ 0x72 ∷ 0x2e ∷ 0x73 ∷ 0x65 ∷ 0x63 ∷ 0x73 ∷ []
-
--- "tween.default"
-abbrev pub «tweenDefault» : List ℕ
-«tweenDefault» = 0x74 ∷ 0x77 ∷ 0x65 ∷ 0x65 ∷ 0x6e ∷ 0x2e ∷ 0x64 ∷ 0x65 ∷ 0x66 ∷ 0x61 ∷ 0x75 ∷ 0x6c ∷ 0x74 ∷ []
-
--- "speed.lerp"
-abbrev pub «speedLerp» : List ℕ
-«speedLerp» = 0x73 ∷ 0x70 ∷ 0x65 ∷ 0x65 ∷ 0x64 ∷ 0x2e ∷ 0x6c ∷ 0x65 ∷ 0x72 ∷ 0x70 ∷ []
-
--- "speed.spt"
-abbrev pub «speedSpt» : List ℕ
-«speedSpt» = 0x73 ∷ 0x70 ∷ 0x65 ∷ 0x65 ∷ 0x64 ∷ 0x2e ∷ 0x73 ∷ 0x70 ∷ 0x74 ∷ []
-
--- "speed.tps"
-abbrev pub «speedTps» : List ℕ
-«speedTps» = 0x73 ∷ 0x70 ∷ 0x65 ∷ 0x65 ∷ 0x64 ∷ 0x2e ∷ 0x74 ∷ 0x70 ∷ 0x73 ∷ []
-
--- "speed.tpm"
-abbrev pub «speedTpm» : List ℕ
-«speedTpm» = 0x73 ∷ 0x70 ∷ 0x65 ∷ 0x65 ∷ 0x64 ∷ 0x2e ∷ 0x74 ∷ 0x70 ∷ 0x6d ∷ []
 
 -- ---- answers: a line, or `refused N` with the refusal's number: docs/RULES.md, refusal-numbers
 
@@ -118,16 +65,17 @@ withWave waved.No next = []
 
 -- ---- the calls f.*
 
--- "`f.trunc F` `f.fract F` `f.ceil F` `f.abs F` `f.clamp F` (to 0..1)": "`F`, on any double"
-unfoldable pub floatsOf : List ℕ → Word → List (List ℕ)
-floatsOf s name =
-    withFloat [] (floatAt s (name .to)) (λ x to.
-    whenEnded s to
-    (cond (named s name «fTrunc») (floatLine (wholeOf x))
-    (cond (named s name «fFract») (floatLine (fractOf x))
-    (cond (named s name «fCeil») (floatLine (ceilOf x))
-    (cond (named s name «fAbs») (floatLine (absOf x))
-    (cond (named s name «fClamp») (floatLine (clampOf x)) []))))))
+-- the function that each is
+abbrev pub doubleOf : DoubleCall → Float → Float
+doubleOf double.Trunc x = wholeOf x
+doubleOf double.Fract x = fractOf x
+doubleOf double.Ceil x = ceilOf x
+doubleOf double.Abs x = absOf x
+doubleOf double.Clamp x = clampOf x
+
+-- "`f.trunc F` `f.fract F` `f.ceil F` `f.abs F` `f.clamp F` (to 0..1)": "`F`, on any double"; behind their names
+unfoldable pub floatsOf : List ℕ → ℕ → DoubleCall → List (List ℕ)
+floatsOf s at call = withFloat [] (floatAt s at) (λ x to. whenEnded s to (floatLine (doubleOf call x)))
 
 -- ---- the calls ease, lerp, wave, dur.secs and tween.default, behind their names
 
@@ -163,29 +111,32 @@ secsReply s at =
 unfoldable pub defaultReply : List ℕ → ℕ → List (List ℕ)
 defaultReply s at = whenEnded s at (lineOf (tweenText defaultTween))
 
-unfoldable pub curvesOf : List ℕ → Word → List (List ℕ)
-curvesOf s name =
-    cond (named s name «ease») (easeReply s (name .to))
-    (cond (named s name «lerp») (lerpReply s (name .to))
-    (cond (named s name «wave») (waveReply s (name .to))
-    (cond (named s name «durSecs») (secsReply s (name .to))
-    (cond (named s name «tweenDefault») (defaultReply s (name .to)) []))))
+unfoldable pub curvesOf : List ℕ → ℕ → CurveCall → List (List ℕ)
+curvesOf s at curve.Ease = easeReply s at
+curvesOf s at curve.Lerp = lerpReply s at
+curvesOf s at curve.Wave = waveReply s at
+curvesOf s at curve.DurSecs = secsReply s at
+curvesOf s at curve.TweenDefault = defaultReply s at
 
--- ---- the calls speed.*
+-- ---- the calls speed.*, behind their names
 
--- "`speed.lerp SPEED SPEED F`": "`SPEED`"; behind its first speed
-unfoldable pub speedLerpReply : List ℕ → ℕ → ClockSpeed → List (List ℕ)
-speedLerpReply s at a =
+-- behind the first speed of speed.lerp
+unfoldable pub betweenReply : List ℕ → ℕ → ClockSpeed → List (List ℕ)
+betweenReply s at a =
     withSpeed [] (speedAt s at) (λ b behind.
     withFloat [] (floatAt s behind) (λ amount to.
     whenEnded s to (speedAnswer (tryInterpolateSpeedOf a b amount))))
 
+-- "`speed.lerp SPEED SPEED F`": "`SPEED`"
+unfoldable pub speedLerpReply : List ℕ → ℕ → List (List ℕ)
+speedLerpReply s at = withSpeed [] (speedAt s at) (λ a behind. betweenReply s behind a)
+
+-- a speed in a unit
+abbrev pub unitOf : SpeedCall → ClockSpeed → Answer Float
+unitOf speed.Spt x = trySptOf x
+unitOf speed.Tps x = tryTpsOf x
+unitOf speed.Tpm x = tryTpmOf x
+
 -- "`speed.spt SPEED` `speed.tps SPEED` `speed.tpm SPEED`": "`F`"
-unfoldable pub speedsOf : List ℕ → Word → List (List ℕ)
-speedsOf s name =
-    withSpeed [] (speedAt s (name .to)) (λ x to.
-    cond (named s name «speedLerp») (speedLerpReply s to x)
-    (whenEnded s to
-    (cond (named s name «speedSpt») (floatAnswer (trySptOf x))
-    (cond (named s name «speedTps») (floatAnswer (tryTpsOf x))
-    (cond (named s name «speedTpm») (floatAnswer (tryTpmOf x)) [])))))
+unfoldable pub speedsOf : List ℕ → ℕ → SpeedCall → List (List ℕ)
+speedsOf s at call = withSpeed [] (speedAt s at) (λ x to. whenEnded s to (floatAnswer (unitOf call x)))

@@ -6,7 +6,7 @@ use grammar::EaseAt;
 use grammar::FloatAt;
 use grammar::NumberAt;
 use grammar::WaveAt;
-use text::Word;
+use names::CurveCall;
 use times::duration;
 use times::tween;
 use times::tween::Tween;
@@ -95,25 +95,15 @@ fn default_tween(line: &[u8], at: usize, out: &mut [u8]) -> usize
     tween(out, tween::default_tween())
 }
 
-// The answer's length, or 0 where the line is no call of this family.
-pub fn call(line: &[u8], name: Word, out: &mut [u8]) -> usize
-    ensures { λ r. ⌜ place (now (out .exit)) r ≡ putAll (place (now (out .entry)) 0) (curvesOf (now (line .entry)) name) ⌝ }
+// The answer's length, or 0 where the line is no call, behind its name.
+pub fn call(line: &[u8], at: usize, call: CurveCall, out: &mut [u8]) -> usize
+    ensures { λ r. ⌜ place (now (out .exit)) r ≡ putAll (place (now (out .entry)) 0) (curvesOf (now (line .entry)) at call) ⌝ }
 {
-    let at = name.to;
-    if grammar::is(line, name, b"ease") {
-        return ease(line, at, out);
+    match call {
+        CurveCall::Ease => ease(line, at, out),
+        CurveCall::Lerp => lerp(line, at, out),
+        CurveCall::Wave => wave(line, at, out),
+        CurveCall::DurSecs => secs(line, at, out),
+        CurveCall::TweenDefault => default_tween(line, at, out),
     }
-    if grammar::is(line, name, b"lerp") {
-        return lerp(line, at, out);
-    }
-    if grammar::is(line, name, b"wave") {
-        return wave(line, at, out);
-    }
-    if grammar::is(line, name, b"dur.secs") {
-        return secs(line, at, out);
-    }
-    if grammar::is(line, name, b"tween.default") {
-        return default_tween(line, at, out);
-    }
-    0
 }

@@ -3,7 +3,7 @@ ghost use mathlib.Core.Path.{_≡_};
 ghost use Rattle.digits.specs.Puts.{place, putAll};
 ghost use Rattle.calls.specs.Calls.{floatLine, floatsOf};
 use grammar::FloatAt;
-use text::Word;
+use names::DoubleCall;
 
 // A whole answer: a double.
 fn answer(out: &mut [u8], x: f64) -> usize
@@ -13,30 +13,21 @@ fn answer(out: &mut [u8], x: f64) -> usize
     digits::end(out, at)
 }
 
-// The answer's length, or 0 where the line is no call of this family.
-pub fn call(line: &[u8], name: Word, out: &mut [u8]) -> usize
-    ensures { λ r. ⌜ place (now (out .exit)) r ≡ putAll (place (now (out .entry)) 0) (floatsOf (now (line .entry)) name) ⌝ }
+// The answer's length, or 0 where the line is no call, behind its name.
+pub fn call(line: &[u8], at: usize, call: DoubleCall, out: &mut [u8]) -> usize
+    ensures { λ r. ⌜ place (now (out .exit)) r ≡ putAll (place (now (out .entry)) 0) (floatsOf (now (line .entry)) at call) ⌝ }
 {
-    let FloatAt::Is(x, to) = grammar::float(line, name.to) else {
+    let FloatAt::Is(x, to) = grammar::float(line, at) else {
         return 0;
     };
     if !grammar::ended(line, to) {
         return 0;
     }
-    if grammar::is(line, name, b"f.trunc") {
-        return answer(out, doubles::whole(x));
+    match call {
+        DoubleCall::Trunc => answer(out, doubles::whole(x)),
+        DoubleCall::Fract => answer(out, doubles::fract(x)),
+        DoubleCall::Ceil => answer(out, doubles::ceil(x)),
+        DoubleCall::Abs => answer(out, doubles::abs(x)),
+        DoubleCall::Clamp => answer(out, doubles::clamp01(x)),
     }
-    if grammar::is(line, name, b"f.fract") {
-        return answer(out, doubles::fract(x));
-    }
-    if grammar::is(line, name, b"f.ceil") {
-        return answer(out, doubles::ceil(x));
-    }
-    if grammar::is(line, name, b"f.abs") {
-        return answer(out, doubles::abs(x));
-    }
-    if grammar::is(line, name, b"f.clamp") {
-        return answer(out, doubles::clamp01(x));
-    }
-    0
 }

@@ -1,7 +1,12 @@
 -- Any two outcomes that a statement allows coincide, for each public function of the crate: `One` of the crate
--- `doubles` says it of the very clause that the check reads off the source. A clause says what the result is. RULES,
--- one-outcome. Assumes nothing.
+-- `doubles` says it of the very clause that the check reads off the source. A clause says what the result is, or what
+-- it tells, and no two results tell the same. RULES, one-outcome. Assumes nothing.
+use mathlib.Core.Path.{_≡_}
 use Rattle.doubles.proofs.Outcomes.{One, equal}
+use Rattle.judge.proofs.Outcomes.{told}
+use Rattle.clock.specs.OneClock.{toldMoved}
+use Rattle.clock.specs.declared.Moved.{Moved}
+use Rattle.clock.specs.declared.Moved.the-variants as moved
 use Rattle.clock.proofs.new_clock.Reads as new-clock
 use Rattle.clock.proofs.new_clock.Kinds as new-clock-kinds
 use Rattle.clock.proofs.position.Reads as position
@@ -18,6 +23,13 @@ use Rattle.clock.proofs.no_report.Reads as no-report
 use Rattle.clock.proofs.no_report.Kinds as no-report-kinds
 use Rattle.clock.proofs.update_clock.Reads as update-clock
 use Rattle.clock.proofs.update_clock.Kinds as update-clock-kinds
+
+-- two answers that tell the same are one
+pub same-moved : (x y : Moved) → toldMoved x ≡ toldMoved y → x ≡ y
+same-moved (moved.Is i) (moved.Is j) e = cc
+same-moved (moved.Is i) (moved.Refused n) e = cc
+same-moved (moved.Refused m) (moved.Is j) e = cc
+same-moved (moved.Refused m) (moved.Refused n) e = cc
 
 pub one-new-clock : One 0 new-clock-kinds.ps new-clock-kinds.r new-clock.Post
 one-new-clock κs a x y s t = equal
@@ -41,4 +53,4 @@ pub one-no-report : One 0 no-report-kinds.ps no-report-kinds.r no-report.Post
 one-no-report κs a x y s t = equal
 
 pub one-update-clock : One 0 update-clock-kinds.ps update-clock-kinds.r update-clock.Post
-one-update-clock κs a x y s t = equal
+one-update-clock κs a x y s t = told same-moved x y

@@ -13,10 +13,10 @@ use Rattle.values.specs.declared.value.SpeedValue.{SpeedValue}
 use Rattle.parameter.specs.SpeedParameters.{newOf, updateOf}
 use Rattle.parameter.specs.declared.speed.SpeedParameter.{SpeedParameter}
 use Rattle.clock.specs.declared.ClockInfo.{ClockInfo}
+use Rattle.judge.specs.Answer.{Answer, accepted, refused, isRefused}
+use Rattle.judge.specs.Judge.{ofTurn, noFaults, numberOf, decided}
 use Rattle.ticks.specs.WholeTicks.{takenOf}
 use Rattle.ticks.specs.declared.Position.{Position}
-use Rattle.ticks.specs.declared.Taken.{Taken}
-use Rattle.ticks.specs.declared.Taken.the-variants.{At, Full}
 use Rattle.clock.specs.declared.ClockState.{ClockState}
 use Rattle.clock.specs.declared.ClockState.the-variants.{NotStarted, Started}
 use Rattle.clock.specs.declared.Clock.{Clock}
@@ -75,20 +75,30 @@ sumOf p s dt = add binary64 (positionOf s .fraction) (advanceOf p dt)
 abbrev pub movedTo : SpeedParameter → Bool → Position → Ticked
 movedTo p told to = record { clock = record { ticking = true; speed = p; state = Started to }; report = reportOf told (to .ticks) }
 
--- TICKS_FULL: RULES, ticks-full
-abbrev pub byTaken : SpeedParameter → Bool → Taken → Moved
-byTaken p told Full = Refused 10
-byTaken p told (At to) = Is (movedTo p told to)
+abbrev pub toldMoved : Moved → Answer Ticked
+toldMoved (Is t) = accepted t
+toldMoved (Refused n) = refused n
 
--- the turn of a clock that ticks, from the beginning where it has not started, with TOO_FAR where it would go more
--- than 2^16 ticks: RULES, first-update and too-far
-unfoldable pub tickOf : SpeedParameter → ClockState → Float → Moved
-tickOf p s dt =
-    cond (lt (fin false 1 (pos 16)) (advanceOf p dt)) (Refused 9)
-    (byTaken p (freshOf s || le oneF (sumOf p s dt)) (takenOf (positionOf s .ticks) (sumOf p s dt)))
+-- TOO_FAR, for more than 2^16 ticks at once: RULES, too-far
+abbrev pub tooFarBy : SpeedParameter → Float → Bool
+tooFarBy p dt = lt (fin false 1 (pos 16)) (advanceOf p dt)
+
+-- the clock at the time that its ticks came to
+abbrev pub byTaken : SpeedParameter → Bool → Answer Position → Answer Ticked
+byTaken p told (refused n) = refused n
+byTaken p told (accepted to) = accepted (movedTo p told to)
+
+-- by what is wrong with the turn, and the time that the ticks came to; TICKS_FULL where they came to none:
+-- RULES, order and ticks-full
+abbrev pub byTurn : SpeedParameter → Bool → Bool → Answer Position → Answer Ticked
+byTurn p told far to = decided (numberOf (ofTurn noFaults far (isRefused to))) (byTaken p told to) refused
+
+-- the turn of a clock that ticks, from the beginning where it has not started: RULES, first-update
+unfoldable pub tickOf : SpeedParameter → ClockState → Float → Answer Ticked
+tickOf p s dt = byTurn p (freshOf s || le oneF (sumOf p s dt)) (tooFarBy p dt) (takenOf (positionOf s .ticks) (sumOf p s dt))
 
 -- the speed is updated first, and a clock that does not tick does no more: RULES, clock-update
-unfoldable pub updateClockOf : Clock → Float → When → Input → Moved
+unfoldable pub updateClockOf : Clock → Float → When → Input → Answer Ticked
 updateClockOf c dt w i =
     cond (c .ticking) (tickOf (updateOf (c .speed) dt w i .parameter) (c .state) dt)
-    (Is (record { clock = spedOf (updateOf (c .speed) dt w i .parameter) c; report = noReport }))
+    (accepted (record { clock = spedOf (updateOf (c .speed) dt w i .parameter) c; report = noReport }))

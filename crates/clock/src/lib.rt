@@ -1,7 +1,8 @@
 // One clock, as clock.rs has it.
 ghost use mathlib.Core.Path.{_≡_};
-ghost use Rattle.clock.specs.OneClock.{newClock, positionOf, infoOf, tickingOf, resetOf, spedOf, freshOf, noReport, reportOf, tickOf, updateClockOf};
+ghost use Rattle.clock.specs.OneClock.{newClock, positionOf, infoOf, tickingOf, resetOf, spedOf, freshOf, noReport, reportOf, toldMoved, tickOf, updateClockOf};
 use judge::TICKS_FULL;
+use judge::TOO_FAR;
 use parameter::speed::SpeedParameter;
 use parameter::speed::new_speed;
 use parameter::speed::update_speed;
@@ -13,8 +14,6 @@ use values::clock_speed::ClockSpeed;
 use values::clock_speed::as_ticks_per_second;
 use values::value::Input;
 use values::value::SpeedValue;
-
-pub const TOO_FAR: u32 = 9;
 
 pub enum ClockState {
     NotStarted,
@@ -152,7 +151,7 @@ fn report(told: bool, ticks: u64) -> Reported
 
 // The update of a ticking clock, its speed updated before.
 fn tick(speed: SpeedParameter, state: ClockState, dt: f64) -> Moved
-    ensures { λ r. ⌜ r ≡ tickOf speed state dt ⌝ }
+    ensures { λ r. ⌜ toldMoved r ≡ tickOf speed state dt ⌝ }
 {
     let raw = speed.raw;
     let advance = as_ticks_per_second(raw) * dt;
@@ -177,7 +176,7 @@ fn tick(speed: SpeedParameter, state: ClockState, dt: f64) -> Moved
 }
 
 pub fn update_clock(c: Clock, dt: f64, when: When, input: Input) -> Moved
-    ensures { λ r. ⌜ r ≡ updateClockOf c dt when input ⌝ }
+    ensures { λ r. ⌜ toldMoved r ≡ updateClockOf c dt when input ⌝ }
 {
     let p = c.speed;
     let state = c.state;

@@ -5,27 +5,24 @@ ghost use mathlib.Core.Path.{_≡_};
 ghost use mathlib.Core.Bool.{true, false};
 ghost use Rattle.times.specs.Times.{toldTime};
 ghost use Rattle.values.specs.Speeds.{toldSpeed};
-ghost use Rattle.ids.specs.Tables.{refusedCall, changed};
-ghost use Rattle.parameter.specs.SpeedParameters.{trySetOf};
-ghost use Rattle.clock_table.specs.ClockTables.{noClocks, clockTable, lookOf, addClockOf, removeOf, tickOnOf, resetClockOf, bySet, setSpeedOf, timeOf, clockTimeOf, clockTickingOf, clockSpeedOf, toldFlag};
+ghost use Rattle.clock_table.specs.ClockTables.{noClocks, toldLooked, lookOf, toldNamed, namedBy, clockBy, toldAdded, addClockOf, removeOf, tickOnOf, resetClockOf, tickingBy, resetBy, speedBy, setSpeedOf, timeOf, clockTimeOf, clockTickingOf, clockSpeedOf, toldFlag};
 use clock::Clock;
 use clock::new_clock;
 use clock::position;
 use clock::reset;
 use clock::with_speed;
 use clock::with_ticking;
-use ids::Found;
 use ids::Key;
-use ids::NO_ROOM;
-use ids::NO_SUCH;
-use ids::Room;
+use ids::Placed;
 use ids::find;
-use ids::free;
+use ids::left;
+use ids::place;
 use judge::first_fault;
 use parameter::speed::try_set_speed;
 use times::time::ClockId;
 use times::time::ClockTime;
 use times::time::Timed;
+use times::time::time_at;
 use times::tween::Tween;
 use values::clock_speed::ClockSpeed;
 use values::clock_speed::Speeded;
@@ -65,6 +62,12 @@ pub enum Looked {
     Refused(u32),
 }
 
+// A clock as a set of its speed leaves it, and 0 or the number of the refusal: then the clock is as it was.
+struct Sped {
+    refused: u32,
+    clock: Clock,
+}
+
 pub fn no_clocks() -> Clocks
     ensures { λ r. ⌜ r ≡ noClocks ⌝ }
 {
@@ -79,94 +82,101 @@ pub fn no_clocks() -> Clocks
     }
 }
 
-pub fn add_clock(t: Clocks, speed: SpeedValue) -> ClockAdded
-    ensures { λ r. ⌜ r ≡ addClockOf t speed ⌝ }
+// The id of a place, or the number of its refusal.
+fn named(p: Placed) -> ClockNamed
+    requires { ⌜ p .slot < 16 ⌝ }
+    ensures { λ r. ⌜ toldNamed r ≡ namedBy p ⌝ }
 {
-    let n = first_fault(speed_value_faults(speed));
-    if n != 0 {
-        return ClockAdded {
-            answer: ClockNamed::Refused(n),
-            table: t,
-        };
+    if p.refused != 0 {
+        return ClockNamed::Refused(p.refused);
     }
-    let keys = t.keys;
-    let Room::At(i, generation) = free(keys) else {
-        return ClockAdded {
-            answer: ClockNamed::Refused(NO_ROOM),
-            table: t,
-        };
-    };
+    ClockNamed::Is(ClockId {
+        slot: p.slot as u32,
+        generation: p.key.generation,
+    })
+}
+
+// A new clock, or the old one c where the number n refuses it.
+fn clock_by(n: u32, c: Clock, speed: SpeedValue) -> Clock
+    ensures { λ r. ⌜ r ≡ clockBy n c speed ⌝ }
+{
+    if n != 0 {
+        return c;
+    }
+    new_clock(speed)
+}
+
+// Whatever becomes of a call, the table is stored to once and goes out by one exit: a second one would copy it again
+// (docs/SPEED.md). What is stored is chosen before, and is what stood there where the call is refused.
+pub fn add_clock(t: Clocks, speed: SpeedValue) -> ClockAdded
+    ensures { λ r. ⌜ toldAdded r ≡ addClockOf t speed ⌝ }
+{
     let mut table = t;
-    table.keys[i] = Key {
-        used: true,
-        generation,
-    };
-    table.clocks[i] = new_clock(speed);
-    let id = ClockId {
-        slot: i as u32,
-        generation,
-    };
+    let keys = table.keys;
+    let p = place(keys, first_fault(speed_value_faults(speed)));
+    let i = p.slot;
+    let key = p.key;
+    let c = table.clocks[i];
+    table.keys[i] = key;
+    table.clocks[i] = clock_by(p.refused, c, speed);
     ClockAdded {
-        answer: ClockNamed::Is(id),
+        answer: named(p),
         table,
     }
 }
 
-// The lookup of every call on a clock.
+// The clock that an id names, for whoever only reads it.
 pub fn look(t: Clocks, id: ClockId) -> Looked
-    ensures { λ r. ⌜ r ≡ lookOf t id ⌝ }
+    ensures { λ r. ⌜ toldLooked r ≡ lookOf t id ⌝ }
 {
     let keys = t.keys;
-    let Found::At(i) = find(keys, id.slot, id.generation) else {
-        return Looked::Refused(NO_SUCH);
-    };
+    let found = find(keys, id.slot, id.generation);
+    if found.refused != 0 {
+        return Looked::Refused(found.refused);
+    }
+    let i = found.slot;
     let c = t.clocks[i];
     Looked::At(i, c)
-}
-
-// A call that is refused leaves the table as it was.
-fn refused(t: Clocks, n: u32) -> ClockDone
-    ensures { λ r. ⌜ r ≡ refusedCall clockTable t n ⌝ }
-{
-    ClockDone {
-        refused: n,
-        table: t,
-    }
-}
-
-// The clock of a slot anew, and nothing else.
-fn put_clock(t: Clocks, i: usize, c: Clock) -> ClockDone
-    requires { ⌜ i < 16 ⌝ }
-    ensures { λ r. ⌜ r ≡ changed clockTable t i c ⌝ }
-{
-    let mut table = t;
-    table.clocks[i] = c;
-    ClockDone { refused: 0, table }
 }
 
 pub fn remove_clock(t: Clocks, id: ClockId) -> ClockDone
     ensures { λ r. ⌜ r ≡ removeOf t id ⌝ }
 {
-    match look(t, id) {
-        Looked::At(i, _) => {
-            let mut table = t;
-            table.keys[i] = Key {
-                used: false,
-                generation: id.generation,
-            };
-            ClockDone { refused: 0, table }
-        }
-        Looked::Refused(n) => refused(t, n),
+    let mut table = t;
+    let keys = table.keys;
+    let found = find(keys, id.slot, id.generation);
+    let i = found.slot;
+    let key = keys[i];
+    table.keys[i] = left(found.refused, key, id.generation);
+    ClockDone {
+        refused: found.refused,
+        table,
     }
+}
+
+// A clock started or stopped, unless the number n refuses it.
+fn ticking_by(n: u32, c: Clock, ticking: bool) -> Clock
+    ensures { λ r. ⌜ r ≡ tickingBy ticking n c ⌝ }
+{
+    if n != 0 {
+        return c;
+    }
+    with_ticking(c, ticking)
 }
 
 // Starts a clock, or stops it.
 fn set_ticking(t: Clocks, id: ClockId, ticking: bool) -> ClockDone
     ensures { λ r. ⌜ r ≡ tickOnOf ticking t id ⌝ }
 {
-    match look(t, id) {
-        Looked::At(i, c) => put_clock(t, i, with_ticking(c, ticking)),
-        Looked::Refused(n) => refused(t, n),
+    let mut table = t;
+    let keys = table.keys;
+    let found = find(keys, id.slot, id.generation);
+    let i = found.slot;
+    let c = table.clocks[i];
+    table.clocks[i] = ticking_by(found.refused, c, ticking);
+    ClockDone {
+        refused: found.refused,
+        table,
     }
 }
 
@@ -182,35 +192,64 @@ pub fn stop_clock(t: Clocks, id: ClockId) -> ClockDone
     set_ticking(t, id, false)
 }
 
+// A clock reset, unless the number n refuses it.
+fn reset_by(n: u32, c: Clock) -> Clock
+    ensures { λ r. ⌜ r ≡ resetBy n c ⌝ }
+{
+    if n != 0 {
+        return c;
+    }
+    reset(c)
+}
+
 pub fn reset_clock(t: Clocks, id: ClockId) -> ClockDone
     ensures { λ r. ⌜ r ≡ resetClockOf t id ⌝ }
 {
-    match look(t, id) {
-        Looked::At(i, c) => put_clock(t, i, reset(c)),
-        Looked::Refused(n) => refused(t, n),
+    let mut table = t;
+    let keys = table.keys;
+    let found = find(keys, id.slot, id.generation);
+    let i = found.slot;
+    let c = table.clocks[i];
+    table.clocks[i] = reset_by(found.refused, c);
+    ClockDone {
+        refused: found.refused,
+        table,
     }
 }
 
-// The speed of the clock in slot i, set unless that is refused.
-fn speed_to(t: Clocks, i: usize, c: Clock, target: SpeedValue, tween: Tween) -> ClockDone
-    requires { ⌜ i < 16 ⌝ }
-    ensures { λ r. ⌜ r ≡ bySet t i c (trySetOf (c .speed) target tween) ⌝ }
+// A clock with its speed set, unless that is refused, by the number n or by its own.
+fn speed_by(n: u32, c: Clock, target: SpeedValue, tween: Tween) -> Sped
+    ensures { λ r. ⌜ r ≡ speedBy target tween n c ⌝ }
 {
+    if n != 0 {
+        return Sped {
+            refused: n,
+            clock: c,
+        };
+    }
     let p = c.speed;
     let set = try_set_speed(p, target, tween);
-    if set.refused != 0 {
-        return refused(t, set.refused);
-    }
     let speed = set.parameter;
-    put_clock(t, i, with_speed(c, speed))
+    Sped {
+        refused: set.refused,
+        clock: with_speed(c, speed),
+    }
 }
 
 pub fn set_clock_speed(t: Clocks, id: ClockId, target: SpeedValue, tween: Tween) -> ClockDone
     ensures { λ r. ⌜ r ≡ setSpeedOf t id target tween ⌝ }
 {
-    match look(t, id) {
-        Looked::At(i, c) => speed_to(t, i, c, target, tween),
-        Looked::Refused(n) => refused(t, n),
+    let mut table = t;
+    let keys = table.keys;
+    let found = find(keys, id.slot, id.generation);
+    let i = found.slot;
+    let c = table.clocks[i];
+    let s = speed_by(found.refused, c, target, tween);
+    let clock = s.clock;
+    table.clocks[i] = clock;
+    ClockDone {
+        refused: s.refused,
+        table,
     }
 }
 
@@ -219,11 +258,7 @@ fn time_of(id: ClockId, c: Clock) -> ClockTime
 {
     let state = c.state;
     let p = position(state);
-    ClockTime {
-        clock: id,
-        ticks: p.ticks,
-        fraction: p.fraction,
-    }
+    time_at(id, p.ticks, p.fraction)
 }
 
 pub fn clock_time(t: Clocks, id: ClockId) -> Timed

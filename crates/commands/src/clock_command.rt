@@ -1,9 +1,13 @@
 // The calls on the clocks as values.
 ghost use mathlib.Core.Path.{_≡_};
+ghost use Rattle.judge.specs.Answer.{onAccepted};
 ghost use Rattle.times.specs.Times.{toldTime};
 ghost use Rattle.values.specs.Speeds.{toldSpeed};
-ghost use Rattle.clock_table.specs.ClockTables.{toldFlag};
-ghost use Rattle.commands.specs.ClockCommands.{addedAs, doneAs, timeAs, flagAs, speedAs, runClockOf};
+ghost use Rattle.clock_table.specs.ClockTables.{toldAdded, toldFlag};
+ghost use Rattle.commands.specs.Answers.{time, flag, speed, toldAnswer};
+ghost use Rattle.commands.specs.ClockCommands.{toldRan, addedAs, doneAs, runClockOf};
+use crate::CallAnswer;
+use crate::by_number;
 use clock_table::ClockAdded;
 use clock_table::ClockDone;
 use clock_table::ClockNamed;
@@ -19,10 +23,8 @@ use clock_table::set_clock_speed;
 use clock_table::start_clock;
 use clock_table::stop_clock;
 use times::time::ClockId;
-use times::time::ClockTime;
 use times::time::Timed;
 use times::tween::Tween;
-use values::clock_speed::ClockSpeed;
 use values::clock_speed::Speeded;
 use values::value::SpeedValue;
 
@@ -38,77 +40,62 @@ pub enum ClockCommand {
     Speed(ClockId),
 }
 
-pub enum ClockAnswer {
-    Done,
-    Id(ClockId),
-    Time(ClockTime),
-    Flag(bool),
-    Speed(ClockSpeed),
-    Refused(u32),
-}
-
 pub struct ClockRan {
-    pub answer: ClockAnswer,
+    pub answer: CallAnswer,
     pub table: Clocks,
 }
 
 fn added(r: ClockAdded) -> ClockRan
-    ensures { λ r1. ⌜ r1 ≡ addedAs r ⌝ }
+    ensures { λ r1. ⌜ toldRan r1 ≡ addedAs (toldAdded r) ⌝ }
 {
     let named = r.answer;
     let table = r.table;
     let answer = match named {
-        ClockNamed::Is(id) => ClockAnswer::Id(id),
-        ClockNamed::Refused(n) => ClockAnswer::Refused(n),
+        ClockNamed::Is(id) => CallAnswer::Clock(id),
+        ClockNamed::Refused(n) => CallAnswer::Refused(n),
     };
     ClockRan { answer, table }
 }
 
 fn done(r: ClockDone) -> ClockRan
-    ensures { λ r1. ⌜ r1 ≡ doneAs r ⌝ }
+    ensures { λ r1. ⌜ toldRan r1 ≡ doneAs r ⌝ }
 {
     let table = r.table;
-    if r.refused != 0 {
-        return ClockRan {
-            answer: ClockAnswer::Refused(r.refused),
-            table,
-        };
-    }
     ClockRan {
-        answer: ClockAnswer::Done,
+        answer: by_number(r.refused),
         table,
     }
 }
 
-fn time(r: Timed) -> ClockAnswer
-    ensures { λ r1. ⌜ r1 ≡ timeAs (toldTime r) ⌝ }
+fn time_told(r: Timed) -> CallAnswer
+    ensures { λ r1. ⌜ toldAnswer r1 ≡ onAccepted time (toldTime r) ⌝ }
 {
     match r {
-        Timed::At(t) => ClockAnswer::Time(t),
-        Timed::Refused(n) => ClockAnswer::Refused(n),
+        Timed::At(t) => CallAnswer::Time(t),
+        Timed::Refused(n) => CallAnswer::Refused(n),
     }
 }
 
-fn flag(r: Flagged) -> ClockAnswer
-    ensures { λ r1. ⌜ r1 ≡ flagAs (toldFlag r) ⌝ }
+fn flag_told(r: Flagged) -> CallAnswer
+    ensures { λ r1. ⌜ toldAnswer r1 ≡ onAccepted flag (toldFlag r) ⌝ }
 {
     match r {
-        Flagged::Is(b) => ClockAnswer::Flag(b),
-        Flagged::Refused(n) => ClockAnswer::Refused(n),
+        Flagged::Is(b) => CallAnswer::Flag(b),
+        Flagged::Refused(n) => CallAnswer::Refused(n),
     }
 }
 
-fn speed(r: Speeded) -> ClockAnswer
-    ensures { λ r1. ⌜ r1 ≡ speedAs (toldSpeed r) ⌝ }
+fn speed_told(r: Speeded) -> CallAnswer
+    ensures { λ r1. ⌜ toldAnswer r1 ≡ onAccepted speed (toldSpeed r) ⌝ }
 {
     match r {
-        Speeded::Is(s) => ClockAnswer::Speed(s),
-        Speeded::Refused(n) => ClockAnswer::Refused(n),
+        Speeded::Is(s) => CallAnswer::Speed(s),
+        Speeded::Refused(n) => CallAnswer::Refused(n),
     }
 }
 
 pub fn run_clock(t: Clocks, c: ClockCommand) -> ClockRan
-    ensures { λ r. ⌜ r ≡ runClockOf t c ⌝ }
+    ensures { λ r. ⌜ toldRan r ≡ runClockOf t c ⌝ }
 {
     match c {
         ClockCommand::Add(v) => added(add_clock(t, v)),
@@ -118,15 +105,15 @@ pub fn run_clock(t: Clocks, c: ClockCommand) -> ClockRan
         ClockCommand::Reset(id) => done(reset_clock(t, id)),
         ClockCommand::SetSpeed(id, v, w) => done(set_clock_speed(t, id, v, w)),
         ClockCommand::Time(id) => ClockRan {
-            answer: time(clock_time(t, id)),
+            answer: time_told(clock_time(t, id)),
             table: t,
         },
         ClockCommand::Ticking(id) => ClockRan {
-            answer: flag(clock_ticking(t, id)),
+            answer: flag_told(clock_ticking(t, id)),
             table: t,
         },
         ClockCommand::Speed(id) => ClockRan {
-            answer: speed(clock_speed(t, id)),
+            answer: speed_told(clock_speed(t, id)),
             table: t,
         },
     }

@@ -1,7 +1,11 @@
 // The calls on the modulators as values.
 ghost use mathlib.Core.Path.{_≡_};
-ghost use Rattle.judge.specs.Answer.{toldFloat};
-ghost use Rattle.commands.specs.ModulatorCommands.{addedAs, doneAs, valueAs, runModulatorOf};
+ghost use Rattle.judge.specs.Answer.{onAccepted, toldFloat};
+ghost use Rattle.modulator_table.specs.ModulatorTables.{toldAdded};
+ghost use Rattle.commands.specs.Answers.{value, toldAnswer};
+ghost use Rattle.commands.specs.ModulatorCommands.{toldRan, addedAs, doneAs, runModulatorOf};
+use crate::CallAnswer;
+use crate::by_number;
 use judge::Floated;
 use modulator::lfo::LfoBuilder;
 use modulator::lfo::LfoParameter;
@@ -33,57 +37,44 @@ pub enum ModulatorCommand {
     Value(ModulatorId),
 }
 
-pub enum ModulatorAnswer {
-    Done,
-    Id(ModulatorId),
-    Value(f64),
-    Refused(u32),
-}
-
 pub struct ModulatorRan {
-    pub answer: ModulatorAnswer,
+    pub answer: CallAnswer,
     pub table: Modulators,
 }
 
 fn added(r: ModulatorAdded) -> ModulatorRan
-    ensures { λ r1. ⌜ r1 ≡ addedAs r ⌝ }
+    ensures { λ r1. ⌜ toldRan r1 ≡ addedAs (toldAdded r) ⌝ }
 {
     let named = r.answer;
     let table = r.table;
     let answer = match named {
-        ModulatorNamed::Is(id) => ModulatorAnswer::Id(id),
-        ModulatorNamed::Refused(n) => ModulatorAnswer::Refused(n),
+        ModulatorNamed::Is(id) => CallAnswer::Modulator(id),
+        ModulatorNamed::Refused(n) => CallAnswer::Refused(n),
     };
     ModulatorRan { answer, table }
 }
 
 fn done(r: ModulatorDone) -> ModulatorRan
-    ensures { λ r1. ⌜ r1 ≡ doneAs r ⌝ }
+    ensures { λ r1. ⌜ toldRan r1 ≡ doneAs r ⌝ }
 {
     let table = r.table;
-    if r.refused != 0 {
-        return ModulatorRan {
-            answer: ModulatorAnswer::Refused(r.refused),
-            table,
-        };
-    }
     ModulatorRan {
-        answer: ModulatorAnswer::Done,
+        answer: by_number(r.refused),
         table,
     }
 }
 
-fn value(r: Floated) -> ModulatorAnswer
-    ensures { λ r1. ⌜ r1 ≡ valueAs (toldFloat r) ⌝ }
+fn value_told(r: Floated) -> CallAnswer
+    ensures { λ r1. ⌜ toldAnswer r1 ≡ onAccepted value (toldFloat r) ⌝ }
 {
     match r {
-        Floated::Is(x) => ModulatorAnswer::Value(x),
-        Floated::Refused(n) => ModulatorAnswer::Refused(n),
+        Floated::Is(x) => CallAnswer::Value(x),
+        Floated::Refused(n) => CallAnswer::Refused(n),
     }
 }
 
 pub fn run_modulator(t: Modulators, c: ModulatorCommand) -> ModulatorRan
-    ensures { λ r. ⌜ r ≡ runModulatorOf t c ⌝ }
+    ensures { λ r. ⌜ toldRan r ≡ runModulatorOf t c ⌝ }
 {
     match c {
         ModulatorCommand::AddTweener(x) => added(add_tweener(t, x)),
@@ -94,7 +85,7 @@ pub fn run_modulator(t: Modulators, c: ModulatorCommand) -> ModulatorRan
         ModulatorCommand::SetWaveform(id, w) => done(set_waveform(t, id, w)),
         ModulatorCommand::SetPhase(id, x) => done(set_phase(t, id, x)),
         ModulatorCommand::Value(id) => ModulatorRan {
-            answer: value(modulator_value(t, id)),
+            answer: value_told(modulator_value(t, id)),
             table: t,
         },
     }

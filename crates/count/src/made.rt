@@ -17,7 +17,7 @@ use parameter::float::new_float;
 use parameter::float::try_set_float;
 use times::start_time::StartTime;
 use times::time::ClockId;
-use times::time::ClockTime;
+use times::time::from_ticks_u64;
 use times::tween::Easing;
 use times::tween::Tween;
 use values::clock_speed::ClockSpeed;
@@ -76,11 +76,7 @@ fn tween(i: u32) -> Tween {
         };
     }
     Tween {
-        start_time: StartTime::At(ClockTime {
-            clock: clock_id(i ^ 1),
-            ticks: 0,
-            fraction: 0.0,
-        }),
+        start_time: StartTime::At(from_ticks_u64(clock_id(i ^ 1), 0)),
         duration: 80_000_000_000_000,
         easing: easing(i),
     }

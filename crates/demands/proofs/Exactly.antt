@@ -8,9 +8,11 @@ use mathlib.Core.Logic.{_↔_}
 use mathlib.Core.List.{List}
 use lib.ListN.{length}
 use lib.Dec.{eqb, ltb}
-use Rattle.judge.specs.Answer.{accepted, refused}
-use Rattle.judge.specs.Judge.{noFaults, bothFaults, dtFaults, floatFaults, fractionFaults, firstFault, judged}
+use Rattle.judge.specs.Answer.{accepted, refused, numberTold}
+use Rattle.judge.specs.Judge.{Conditions, ofArguments, bothFaults, dtFaults, floatFaults, numberOf, firstFault, decided, judged}
+use Rattle.judge.specs.Numbers.{«BUFFER»}
 use Rattle.values.specs.Speeds.{speedFaults}
+use Rattle.times.specs.Times.{clockTimeFaults}
 use Rattle.times.specs.Starts.{startFaults, tryUpdateOf}
 use Rattle.judge.specs.declared.Faults.{Faults}
 use Rattle.times.specs.declared.time.ClockId.{ClockId}
@@ -25,14 +27,14 @@ use Rattle.info.specs.Infos.{tryWhenToStartOf, tryRawFloatIn, tryRawSpeedIn}
 use Rattle.info.specs.ParametersIn.{tryUpdateFloatIn, tryUpdateSpeedIn}
 use Rattle.station.specs.Frames.{frameOf}
 use Rattle.station.specs.declared.Station.{Station}
-use Rattle.report.specs.Reports.{unchanged, atStart, reportText, reportOf}
-use Rattle.laws.specs.Calls.{Call, clock, modulator, frame, refusal, done, numberIn, numberOf}
+use Rattle.report.specs.Reports.{unchanged, atStart, tooShort, reportText, reportOf}
+use Rattle.laws.specs.Calls.{Call, clock, modulator, frame, refusal, done, callNumber}
 use Rattle.laws.specs.SoundStation.{All}
 use Rattle.laws.proofs.lemmas.Entries.{names-read}
-use Rattle.demands.specs.Entries.{Lent, Tables, Entry, onStation, setFloat, setSpeed, updateFloat, updateSpeed, advanceFloat, advanceSpeed, report, when, readFloat, readSpeed, startIn, makeFloat, makeSpeed, shift, numberTold, numberGiven}
-use Rattle.demands.specs.Conditions.{Conditions, tooFarIn, ticksFullIn, inFrame, noClock, ofArguments, ofCall, ofReport, conditionsOf}
+use Rattle.demands.specs.Entries.{Lent, Tables, Entry, onStation, setFloat, setSpeed, updateFloat, updateSpeed, advanceFloat, advanceSpeed, report, when, readFloat, readSpeed, startIn, makeFloat, makeSpeed, shift, numberGiven}
+use Rattle.demands.specs.Conditions.{tooFarIn, ticksFullIn, inFrame, ofCall, ofReport, conditionsOf}
 use Rattle.demands.specs.Order.{order, holds, firstIn, among, Decides}
-use Rattle.demands.proofs.lemmas.Asked.{first-exactly, first-none, given-is, judged-number, id-given}
+use Rattle.demands.proofs.lemmas.Asked.{first-exactly, first-none, judged-number, id-given, turn-given}
 use Rattle.demands.proofs.lemmas.Lowest.{frame-number}
 use Rattle.demands.proofs.lemmas.ByClock.{clock-case, clock-number}
 use Rattle.demands.proofs.lemmas.ByModulator.{modulator-number}
@@ -40,13 +42,13 @@ use Rattle.demands.proofs.lemmas.ByTime.{shift-number}
 
 -- ---- the calls on the station
 
-call-number : (st : Station) → Tables st → (c : Call) → numberOf st c ≡ firstIn order (holds (ofCall st c))
+call-number : (st : Station) → Tables st → (c : Call) → callNumber st c ≡ firstIn order (holds (ofCall st c))
 call-number st t (clock c) = clock-number st (t .clocks) c
 call-number st t (modulator c) = modulator-number st (t .modulators) c
 call-number st t (frame dt) =
     let n = frameOf st dt .refused in
-    judged-number numberIn done (refusal n) n refl refl ∙ frame-number st dt
-    ∙ sym (given-is false (dtFaults dt) false (inFrame tooFarIn st dt) (inFrame ticksFullIn st dt) false false)
+    judged-number numberTold done (refusal n) n refl refl ∙ frame-number st dt
+    ∙ sym (turn-given (dtFaults dt) (inFrame tooFarIn st dt) (inFrame ticksFullIn st dt))
 
 -- ---- the caller's parameters, and the report
 
@@ -59,14 +61,13 @@ judged-given : {A : Type 0} (f : Faults) (x : A) → numberTold (judged f (accep
 judged-given f x = arguments-number numberTold f (accepted x) (refused (firstFault f)) refl refl
 
 report-number : (st : Station) → Tables st → (id : ClockId) (out : List ℕ) → numberTold (reportOf (st .clocks) id out .answer) ≡ firstIn order (holds (ofReport st id out))
-unfolding reportOf firstFault
+unfolding reportOf firstIn numberOf
 report-number st t id out =
     clock-case st (t .clocks) id
     (λ m e. rw (e, m))
-    (λ m c n. rw (names-read (st .clocks) id c n (reportText id), m) (go (reportText id c) (ltb (length out) 96)))
-    ∙ sym (given-is (noClock st id) noFaults false false false (ltb (length out) 96) false)
+    (λ m c n. rw (names-read (st .clocks) id c n (reportText id), m) (go (reportText id c) (tooShort out)))
   where
-    go : (text : List ℕ) (b : Bool) → numberTold (cond b (unchanged 11 out) (atStart text out) .answer) ≡ cond b 11 0
+    go : (text : List ℕ) (b : Bool) → numberTold (decided (cond b «BUFFER» 0) (atStart text out) (λ n. unchanged n out) .answer) ≡ cond b «BUFFER» 0
     go text true = refl
     go text false = refl
 
@@ -75,11 +76,11 @@ report-number st t id out =
 -- The number as one equation: the first in the order whose condition holds, for every call of `Entries`, which says
 -- what it leaves out, on all that can be lent, valid or not: RULES, exact-refusals. `Tables` asks only for what the
 -- arrays' lengths give, so every station that a caller can hold meets it.
--- It speaks of numbers alone, not of what an accepted call does. The conditions of 1 to 6 are the very definitions that
--- the entries' statements use (`dtFaults`, `setFaults`, ..), so a definition that forgot an argument would meet it:
--- `limits` of `Limits`, some 1,400 rows at the limits of each argument, rules that out. Those of 7 to 12 are written
--- anew in `Conditions`, on what the definitions compute: whether an id lives; and in a frame what a clock sees in its
--- turn, its speed, its advance, its sum and the whole ticks of it.
+-- It speaks of numbers alone, not of what an accepted call does. The conditions of an argument's number are the very
+-- definitions that the entries' statements use (`dtFaults`, `setFaults`, ..), so a definition that forgot an argument
+-- would meet it: `limits` of `Limits`, some 1,400 rows at the limits of each argument, rules that out. Those of the
+-- other numbers are written anew in `Conditions`, on what the definitions compute: whether an id lives; and in a frame
+-- what a clock sees in its turn, its speed, its advance, its sum and the whole ticks of it.
 pub number-given : (l : Lent) → Tables (l .station) → (e : Entry) → numberGiven l e ≡ firstIn order (holds (conditionsOf l e))
 unfolding floats.trySetOf speeds.trySetOf tryUpdateFloatIn tryUpdateSpeedIn floats.tryUpdateOf speeds.tryUpdateOf tryWhenToStartOf tryRawFloatIn tryRawSpeedIn tryUpdateOf floats.tryNewOf speeds.tryNewOf
 number-given l t (onStation c) = call-number (l .station) t c
@@ -90,7 +91,7 @@ number-given l t (updateSpeed dt) = arguments-number (λ (r : SpeedAdvanced). r 
 number-given l t (advanceFloat dt w i) = arguments-number (λ (r : FloatAdvanced). r .refused) (dtFaults dt) _ _ refl refl
 number-given l t (advanceSpeed dt w i) = arguments-number (λ (r : SpeedAdvanced). r .refused) (dtFaults dt) _ _ refl refl
 number-given l t (report id) = report-number (l .station) t id (l .buffer)
-number-given l t (when u) = judged-given (fractionFaults (u .fraction)) _
+number-given l t (when u) = judged-given (clockTimeFaults u) _
 number-given l t (readFloat v) = judged-given (floatValueFaults v) _
 number-given l t (readSpeed v) = judged-given (speedValueFaults v) _
 number-given l t (startIn s dt) = judged-given (bothFaults (dtFaults dt) (startFaults s)) _

@@ -9,18 +9,17 @@ use mathlib.Core.List.{List, [], _∷_}
 use lib.ListN.{length}
 use lib.Dec.{eqb}
 use lib.Ieee.{Float}
-use Rattle.ids.specs.Keys.{freeOf}
-use Rattle.ids.specs.declared.Room.{Room}
-use Rattle.ids.specs.declared.Room.the-variants as room
+use Rattle.ids.specs.Keys.{Place, place, freeOf}
 use Rattle.ids.proofs.Names.{add-lives}
 use Rattle.ids.proofs.Places.{read-set-same, room-inside}
-use Rattle.judge.specs.Answer.{accepted, refused}
-use Rattle.judge.specs.Judge.{firstFault}
+use Rattle.judge.specs.Answer.{Answer, accepted, refused, isRefused}
+use Rattle.judge.specs.Judge.{ofAdd, numberOf}
+use Rattle.judge.specs.Numbers.{«NO_SUCH»}
 use Rattle.times.specs.declared.time.ClockId.{ClockId}
 use Rattle.values.specs.Values.{speedValueFaults}
 use Rattle.values.specs.declared.value.SpeedValue.{SpeedValue}
 use Rattle.clock.specs.OneClock.{newClock}
-use Rattle.ids.specs.Tables.{refusedAdd, addedIn}
+use Rattle.ids.specs.Tables.{refusedAdd, placedIn}
 use Rattle.clock_table.specs.ClockTables.{clockTable, addClockOf}
 use Rattle.clock.specs.declared.Clock.{Clock}
 use Rattle.clock.specs.declared.ClockState.the-variants.{NotStarted}
@@ -31,7 +30,7 @@ use Rattle.commands.specs.declared.clock_command.ClockCommand.the-variants as c
 use Rattle.station.specs.Frames.{frameOf}
 use Rattle.station.specs.Stations.{freshStation}
 use Rattle.station.specs.declared.Station.{Station}
-use Rattle.laws.specs.Calls.{Call, clock, modulator, frame, after, afterAll, ofClock, named, clockTold, told}
+use Rattle.laws.specs.Calls.{Call, clock, modulator, frame, after, afterAll, ofClock, named, told}
 use Rattle.laws.specs.SoundStation.{All}
 use Rattle.laws.proofs.lemmas.Entries.{Names, names-read}
 use Rattle.laws.proofs.lemmas.OneClock.{Makes, leaves, starts, stops, resets, speeds, command-makes}
@@ -54,9 +53,9 @@ new-fresh st id n = record { slot = n .slot; clock = n .clock; lives = names-rea
 -- ---- the add
 
 module _ (t : Clocks) (s : Sixteen t) (v : SpeedValue) (id : ClockId) where
-  put : (w : Room) → freeOf 0 (t .keys) ≡ w → clockTold (addedAs (addedIn clockTable t (newClock v) w) .answer) ≡ named ofClock (id .slot) (id .generation) → New (addedIn clockTable t (newClock v) w .table) id
-  put room.Nothing e a = let z : _≡_ {A = ℕ} 0 1 = cc in absurd (omega arith)
-  put (room.At i g) e a =
+  put : (w : Answer Place) → freeOf 0 (t .keys) ≡ w → addedAs (placedIn clockTable t (newClock v) w) .answer ≡ named ofClock (id .slot) (id .generation) → New (placedIn clockTable t (newClock v) w .table) id
+  put (refused m) e a = let z : _≡_ {A = ℕ} 0 1 = cc in absurd (omega arith)
+  put (accepted (place i g)) e a =
       let p : i ≡ id .slot = cc in
       let q : g ≡ id .generation = cc in
       let l : i < length (t .keys) = room-inside (t .keys) i g e in
@@ -65,19 +64,19 @@ module _ (t : Clocks) (s : Sixteen t) (v : SpeedValue) (id : ClockId) where
       record {
         slot = omega arith;
         clock = newClock v;
-        names = rw (← p, ← q) (record { lives = add-lives (t .keys) i g e; holds = read-set-same (refused 7) (λ x. accepted x) (t .clocks) i (newClock v) (omega arith) });
+        names = rw (← p, ← q) (record { lives = add-lives (t .keys) i g e; holds = read-set-same (refused «NO_SUCH») (λ x. accepted x) (t .clocks) i (newClock v) (omega arith) });
         still = refl;
         unstarted = refl;
       }
 
-  added : clockTold (addedAs (addClockOf t v) .answer) ≡ named ofClock (id .slot) (id .generation) → New (addClockOf t v .table) id
+  added : addedAs (addClockOf t v) .answer ≡ named ofClock (id .slot) (id .generation) → New (addClockOf t v .table) id
   unfolding addClockOf
-  added = go (eqb (firstFault (speedValueFaults v)) 0)
+  added = go (eqb n 0)
     where
       n : ℕ
-      n = firstFault (speedValueFaults v)
+      n = numberOf (ofAdd (speedValueFaults v) (isRefused (freeOf 0 (t .keys))))
 
-      go : (b : Bool) → clockTold (addedAs (cond b (addedIn clockTable t (newClock v) (freeOf 0 (t .keys))) (refusedAdd clockTable t n)) .answer) ≡ named ofClock (id .slot) (id .generation) → New (cond b (addedIn clockTable t (newClock v) (freeOf 0 (t .keys))) (refusedAdd clockTable t n) .table) id
+      go : (b : Bool) → addedAs (cond b (placedIn clockTable t (newClock v) (freeOf 0 (t .keys))) (refusedAdd clockTable t n)) .answer ≡ named ofClock (id .slot) (id .generation) → New (cond b (placedIn clockTable t (newClock v) (freeOf 0 (t .keys))) (refusedAdd clockTable t n) .table) id
       go true a = put (freeOf 0 (t .keys)) refl a
       go false a = let z : _≡_ {A = ℕ} 0 1 = cc in absurd (omega arith)
 

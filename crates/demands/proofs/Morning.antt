@@ -31,7 +31,7 @@ use Rattle.commands.specs.declared.modulator_command.ModulatorCommand.the-varia
 use Rattle.station.specs.Stations.{freshStation, infoIn}
 use Rattle.station.specs.declared.Station.{Station}
 use Rattle.report.specs.Reports.{intoBuffer, reportText, reportOf}
-use Rattle.laws.specs.Calls.{Call, clock, modulator, after, afterAll, Kind, ofClock, ofModulator, keysOf, lives, numberOf, entry, clockTarget, targetOf, Touches}
+use Rattle.laws.specs.Calls.{Call, clock, modulator, after, afterAll, Kind, ofClock, ofModulator, keysOf, lives, callNumber, entry, clockTarget, targetOf, Touches}
 use Rattle.laws.proofs.Apart.{two-slots, apart}
 use Rattle.laws.proofs.lemmas.Entries.{Holds, holds-read, lives-used, stays-held, Names, names-of, names-where, names-read}
 use Rattle.laws.proofs.Lives.{clock-removed, modulator-removed, run-later, run-spent, never-again, run-numbered}
@@ -137,11 +137,11 @@ module _ (k : Kind) (st : Station) (i g : ℕ) where
 
 -- an accepted removal is such a death
 module _ (st : Station) where
-  pub removed-clock : (id : ClockId) → numberOf st (clock (clocks.Remove id)) ≡ 0 → (cs : List Call) → lives ofClock (afterAll (after st (clock (clocks.Remove id))) cs) (id .slot) (id .generation) ≡ false
+  pub removed-clock : (id : ClockId) → callNumber st (clock (clocks.Remove id)) ≡ 0 → (cs : List Call) → lives ofClock (afterAll (after st (clock (clocks.Remove id))) cs) (id .slot) (id .generation) ≡ false
   removed-clock id z cs = run-spent ofClock (after st (clock (clocks.Remove id))) (id .slot) (id .generation) (clock-removed st id z) cs .dead
 
   pub removed-modulator :
-      (id : ModulatorId) → numberOf st (modulator (modulators.Remove id)) ≡ 0 → (cs : List Call)
+      (id : ModulatorId) → callNumber st (modulator (modulators.Remove id)) ≡ 0 → (cs : List Call)
       → lives ofModulator (afterAll (after st (modulator (modulators.Remove id))) cs) (id .slot) (id .generation) ≡ false
   removed-modulator id z cs = run-spent ofModulator (after st (modulator (modulators.Remove id))) (id .slot) (id .generation) (modulator-removed st id z) cs .dead
 

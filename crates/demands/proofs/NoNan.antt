@@ -1,6 +1,6 @@
 -- No NaN stops a clock: in every station that calls reach each clock's ticks per second are finite and not negative and
--- its fraction lies in 0..1, and the set that would make one, from speed 0 to seconds per tick, is refused by 3 and
--- leaves every clock as it was. 01, "Speeds"; RULES, no-nan. Assumes nothing.
+-- its fraction lies in 0..1, and the set that would make one, from speed 0 to seconds per tick, is refused by BAD_SPEED
+-- and leaves every clock as it was. 01, "Speeds"; RULES, no-nan. Assumes nothing.
 use Prim.Native.Nat.{ℕ, zero, suc, _*_, _<_}
 use native.Mathlib.Nat.{zero-mul, mul-pos, zero-lt-suc, lt-irrefl}
 use native.Mathlib.Omega.{arith}
@@ -16,6 +16,7 @@ use Rattle.doubles.specs.Doubles.{finiteOf, zeroF}
 use Rattle.ids.specs.Lists.{readAt}
 use Rattle.judge.specs.Answer.{accepted}
 use Rattle.judge.specs.Judge.{noFaults, bothFaults, firstFault}
+use Rattle.judge.specs.Numbers.{«BAD_SPEED»}
 use Rattle.values.specs.Speeds.{badReading, faultsOfSpeed, readFaults}
 use Rattle.judge.specs.declared.Faults.{Faults}
 use Rattle.values.specs.declared.clock_speed.ClockSpeed.{ClockSpeed}
@@ -91,30 +92,30 @@ unreadable (SecondsPerTick x) y e = absurd (false≢true e)
 unreadable (TicksPerSecond x) y e = rw (over-zero 1 (pos 0) refl x e)
 unreadable (TicksPerMinute x) y e = rw (over-zero 15 (pos 2) refl x e)
 
-by-three : (a b r : Faults) → a ≡ noFaults → b ≡ noFaults → r ≡ faultsOfSpeed true → firstFault (bothFaults (bothFaults a b) r) ≡ 3
+by-speed : (a b r : Faults) → a ≡ noFaults → b ≡ noFaults → r ≡ faultsOfSpeed true → firstFault (bothFaults (bothFaults a b) r) ≡ «BAD_SPEED»
 unfolding firstFault
-by-three a b r p q e = rw (p, q, e)
+by-speed a b r p q e = rw (p, q, e)
 
 -- Every value whose target is in seconds per tick, a fixed speed or a mapping, and every tween, where nothing else of
 -- the call is refused. What a tween that is under way makes of its speed is told above, not here. A program that
 -- refuses every set to seconds per tick would meet these two; `accepted-exactly` of `Exactly` rules it out.
 module _ (v : SpeedValue) (y : Float) (u : targetUnit v ≡ SecondsPerTick y) (a : speedValueFaults v ≡ noFaults) (w : Tween) (b : tweenFaults w ≡ noFaults) where
   -- for every parameter at speed 0, which comes back as it was
-  pub parameter-stays : (p : SpeedParameter) → still (p .raw) ≡ true → trySetOf p v w ≡ record { refused = 3; parameter = p }
+  pub parameter-stays : (p : SpeedParameter) → still (p .raw) ≡ true → trySetOf p v w ≡ record { refused = «BAD_SPEED»; parameter = p }
   unfolding trySetOf
-  parameter-stays p z = refuses (firstFault (setFaults p v w)) (by-three (speedValueFaults v) (tweenFaults w) (readFaults (p .raw) (targetUnit v)) a b (ap faultsOfSpeed bad))
+  parameter-stays p z = refuses (firstFault (setFaults p v w)) (by-speed (speedValueFaults v) (tweenFaults w) (readFaults (p .raw) (targetUnit v)) a b (ap faultsOfSpeed bad))
     where
       bad : badReading (p .raw) (targetUnit v) ≡ true
       bad = rw u (unreadable (p .raw) y z)
 
-      refuses : (n : ℕ) → n ≡ 3 → _≡_ {A = SpeedSet} (cond (eqb n 0) (record { refused = 0; parameter = setOf p v w }) (record { refused = n; parameter = p })) (record { refused = 3; parameter = p })
+      refuses : (n : ℕ) → n ≡ «BAD_SPEED» → _≡_ {A = SpeedSet} (cond (eqb n 0) (record { refused = 0; parameter = setOf p v w }) (record { refused = n; parameter = p })) (record { refused = «BAD_SPEED»; parameter = p })
       refuses n e = rw e
 
   -- for every table, and every id that names a clock in it which is at speed 0: the table comes back, and so that
   -- clock, as it was
-  pub clock-stays : (t : Clocks) (id : ClockId) (c : Clock) → readFound clockTable t (whereIs clockTable t id) (λ x. x) ≡ accepted c → still (c .speed .raw) ≡ true → (setSpeedOf t id v w .refused ≡ 3) × (setSpeedOf t id v w .table ≡ t)
+  pub clock-stays : (t : Clocks) (id : ClockId) (c : Clock) → readFound clockTable t (whereIs clockTable t id) (λ x. x) ≡ accepted c → still (c .speed .raw) ≡ true → (setSpeedOf t id v w .refused ≡ «BAD_SPEED») × (setSpeedOf t id v w .table ≡ t)
   unfolding setSpeedOf
   clock-stays t id c is z =
-      let r : setSpeedOf t id v w ≡ refusedCall clockTable t 3 =
+      let r : setSpeedOf t id v w ≡ refusedCall clockTable t «BAD_SPEED» =
       names-on t id c (names-of t id c is) (λ i x. bySet t i x (trySetOf (x .speed) v w)) ∙ ap (bySet t (id .slot) c) (parameter-stays (c .speed) z) in
       (ap (λ (d : ClockDone). d .refused) r, ap (λ (d : ClockDone). d .table) r)

@@ -12,8 +12,9 @@ use Rattle.ids.specs.Keys.{freeOf, livesIn, findOf}
 use Rattle.ids.specs.Lists.{readAt}
 use Rattle.ticks.specs.WholeTicks.{roomFor, takenOf}
 use Rattle.judge.specs.Answer.{Answer, accepted, refused}
-use Rattle.judge.specs.Judge.{firstFault}
+use Rattle.judge.specs.Judge.{numberOf, firstFault}
 use Rattle.values.specs.declared.clock_speed.ClockSpeed.the-variants.{TicksPerSecond}
+use Rattle.times.specs.Times.{timeAt}
 use Rattle.times.specs.declared.time.ClockId.{ClockId}
 use Rattle.times.specs.declared.time.ClockTime.{ClockTime}
 use Rattle.values.specs.declared.value.SpeedValue.{SpeedValue}
@@ -27,7 +28,7 @@ use Rattle.station.specs.Frames.{modulatorTurns, modulatorsTurned, clockTurns, 
 use Rattle.station.specs.Stations.{freshStation, infoIn}
 use Rattle.station.specs.Turns.{turnClock}
 use Rattle.station.specs.declared.Station.{Station}
-use Rattle.laws.specs.Calls.{clock, frame, after, numberOf}
+use Rattle.laws.specs.Calls.{clock, frame, after, callNumber}
 use Rattle.laws.specs.SoundStation.{All}
 use Rattle.laws.proofs.lemmas.Entries.{names-read}
 use Rattle.demands.specs.Events.{Event, afterEvents, placeAt, advanceIn, advancesOf, total}
@@ -52,17 +53,17 @@ running = after withClock (clock (Start first))
 
 -- Not every call is refused: an add, a start and a frame are accepted. A program that accepts these three alone meets
 -- it; which calls are accepted, in general, `accepted-exactly` of `Exactly` says.
-pub some-call-is-accepted : (numberOf freshStation (clock (Add one)) ≡ 0) × (numberOf withClock (clock (Start first)) ≡ 0) × (numberOf running (frame oneF) ≡ 0)
-unfolding firstFault add sub mul lt le eq toUnsigned freeOf livesIn findOf readAt roomFor takenOf tickOf updateClockOf addClockOf tickOnOf runClockOf speeds.updateOf infoIn turnClock modulatorTurns modulatorsTurned clockTurns clocksTurned frameOf
+pub some-call-is-accepted : (callNumber freshStation (clock (Add one)) ≡ 0) × (callNumber withClock (clock (Start first)) ≡ 0) × (callNumber running (frame oneF) ≡ 0)
+unfolding numberOf firstFault add sub mul lt le eq toUnsigned freeOf livesIn findOf readAt roomFor takenOf tickOf updateClockOf addClockOf tickOnOf runClockOf speeds.updateOf infoIn turnClock modulatorTurns modulatorsTurned clockTurns clocksTurned frameOf
 some-call-is-accepted = (refl, refl, refl)
 
 -- the clock's time, once it was started, and a frame of a second later
-at-zero : clockTimeOf (running .clocks) first ≡ accepted (record { clock = first; ticks = 0; fraction = zeroF })
-unfolding firstFault lt le eq freeOf livesIn findOf readAt addClockOf tickOnOf clockTimeOf runClockOf
+at-zero : clockTimeOf (running .clocks) first ≡ accepted (timeAt first 0 zeroF)
+unfolding numberOf firstFault lt le eq freeOf livesIn findOf readAt addClockOf tickOnOf clockTimeOf runClockOf
 at-zero = refl
 
-at-one : clockTimeOf (after running (frame oneF) .clocks) first ≡ accepted (record { clock = first; ticks = 1; fraction = zeroF })
-unfolding firstFault add sub mul lt le eq toUnsigned freeOf livesIn findOf readAt roomFor takenOf tickOf updateClockOf addClockOf tickOnOf clockTimeOf runClockOf speeds.updateOf infoIn turnClock modulatorTurns modulatorsTurned clockTurns clocksTurned frameOf
+at-one : clockTimeOf (after running (frame oneF) .clocks) first ≡ accepted (timeAt first 1 zeroF)
+unfolding numberOf firstFault add sub mul lt le eq toUnsigned freeOf livesIn findOf readAt roomFor takenOf tickOf updateClockOf addClockOf tickOnOf clockTimeOf runClockOf speeds.updateOf infoIn turnClock modulatorTurns modulatorsTurned clockTurns clocksTurned frameOf
 at-one = refl
 
 abbrev ticksIn : Answer ClockTime → ℕ

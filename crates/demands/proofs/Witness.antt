@@ -16,7 +16,8 @@ use Rattle.ids.specs.Keys.{freeOf, livesIn, findOf}
 use Rattle.ids.specs.Lists.{readAt}
 use Rattle.ticks.specs.WholeTicks.{roomFor, takenOf}
 use Rattle.times.specs.Durations.{secondsOf}
-use Rattle.judge.specs.Judge.{firstFault}
+use Rattle.judge.specs.Judge.{numberOf, firstFault}
+use Rattle.judge.specs.Numbers.{«NO_SUCH», «TOO_FAR»}
 use Rattle.values.specs.Speeds.{interpolateSpeedOf}
 use Rattle.times.specs.Times.{orderOf}
 use Rattle.values.specs.declared.clock_speed.ClockSpeed.the-variants.{TicksPerSecond}
@@ -38,7 +39,7 @@ use Rattle.info.specs.Infos.{whenToStartOf, modulatorValueOf}
 use Rattle.clock.specs.OneClock.{tickOf, updateClockOf}
 use Rattle.clock_table.specs.ClockTables.{addClockOf, removeOf, tickOnOf, setSpeedOf}
 use Rattle.modulator.specs.Tweeners.{updateTweenerOf}
-use Rattle.modulator_table.specs.ModulatorTables.{putOf, addTweenerOf}
+use Rattle.modulator_table.specs.ModulatorTables.{addTweenerOf}
 use Rattle.commands.specs.ClockCommands.{runClockOf}
 use Rattle.commands.specs.ModulatorCommands.{runModulatorOf}
 use Rattle.commands.specs.declared.clock_command.ClockCommand.the-variants as command
@@ -47,7 +48,7 @@ use Rattle.station.specs.Frames.{modulatorTurns, modulatorsTurned, clockTurns, 
 use Rattle.station.specs.Stations.{freshStation, infoIn}
 use Rattle.station.specs.Turns.{turnClock, turnModulator}
 use Rattle.station.specs.declared.Station.{Station}
-use Rattle.laws.specs.Calls.{Call, clock, modulator, frame, after, afterAll, ofClock, named, told, numberOf}
+use Rattle.laws.specs.Calls.{Call, clock, modulator, frame, after, afterAll, ofClock, named, told, callNumber}
 use Rattle.laws.specs.SoundStation.{All}
 use Rattle.demands.specs.Events.{Event, call, update, moves, scaled, placeAt, advanceIn, advancesOf, total, sumsFrom, inOrder, testsOf, at, firstPass, firstReach}
 use Rattle.demands.specs.Kinds.{floatKind, resting, running, courseOf, progressOf}
@@ -81,7 +82,7 @@ unfolding idOf
 ours = idOf 1 2
 
 given : told (afterAll freshStation before) (clock (command.Add pace)) ≡ named ofClock 1 2
-unfolding before idOf pace afterAll runClockOf addClockOf removeOf freeOf livesIn findOf readAt firstFault le lt eq
+unfolding before idOf pace afterAll runClockOf addClockOf removeOf freeOf livesIn findOf readAt numberOf firstFault le lt eq
 given = refl
 
 -- a modulator, a clock linked to it, the start of the fast clock, and a frame before ours is started
@@ -164,8 +165,8 @@ waiting = floats.trySetOf rest (float.Fixed (fin false 1 (pos 3))) waits .parame
 
 record Computed : Type 0 where
   -- NO_SUCH, and TOO_FAR
-  dead : numberOf (started st ours) (clock (command.Start (idOf 1 1))) ≡ 7
-  far : numberOf (started st ours) (frame oneF) ≡ 9
+  dead : callNumber (started st ours) (clock (command.Start (idOf 1 1))) ≡ «NO_SUCH»
+  far : callNumber (started st ours) (frame oneF) ≡ «TOO_FAR»
   -- four of the five frames are accepted
   advances : advancesOf ours (started st ours) es ≡ fin false 3 (negsuc 2) ∷ fin false 3 (negsuc 1) ∷ fin false 3 (negsuc 1) ∷ fin false 3 (negsuc 1) ∷ []
   ordered : inOrder false (started st ours) es ≡ true
@@ -175,7 +176,7 @@ record Computed : Type 0 where
   times : progressOf floatKind (courseOf floatKind (started st ours) waiting es) ≡ running (newCourse waits) ∷ running (newCourse waits) ∷ running (record { tween = waits; time = quarter }) ∷ resting ∷ []
 
 computed : Computed
-unfolding courseOf progressOf testsOf firstPass advancesOf advanceIn inOrder moves waiting waits rest es st ours before pace between quarter idOf tryUpdateFloatIn floats.trySetOf floats.updateOf floats.tweenedOf floats.tryUpdateOf afterAll runClockOf runModulatorOf addClockOf removeOf tickOnOf setSpeedOf addTweenerOf putOf freeOf livesIn findOf readAt firstFault le lt eq add sub mul div toUnsigned ofInt secondsOf interpolateSpeedOf applyOf tweenValueOf amountOf mapSpeedOf stepOf speeds.updateOf speeds.tweenedOf speeds.trySetOf modulatorValueOf whenToStartOf orderOf roomFor takenOf tickOf updateClockOf updateTweenerOf infoIn turnClock turnModulator modulatorTurns modulatorsTurned clockTurns clocksTurned frameOf
+unfolding courseOf progressOf testsOf firstPass advancesOf advanceIn inOrder moves waiting waits rest es st ours before pace between quarter idOf tryUpdateFloatIn floats.trySetOf floats.updateOf floats.tweenedOf floats.tryUpdateOf afterAll runClockOf runModulatorOf addClockOf removeOf tickOnOf setSpeedOf addTweenerOf freeOf livesIn findOf readAt numberOf firstFault le lt eq add sub mul div toUnsigned ofInt secondsOf interpolateSpeedOf applyOf tweenValueOf amountOf mapSpeedOf stepOf speeds.updateOf speeds.tweenedOf speeds.trySetOf modulatorValueOf whenToStartOf orderOf roomFor takenOf tickOf updateClockOf updateTweenerOf infoIn turnClock turnModulator modulatorTurns modulatorsTurned clockTurns clocksTurned frameOf
 computed = record { dead = refl; far = refl; advances = refl; ordered = refl; accepts = refl; third = refl; times = refl }
 
 -- ---- the theorem, applied

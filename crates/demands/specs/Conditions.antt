@@ -6,17 +6,17 @@ use mathlib.Core.List.{List, [], _∷_}
 use lib.IntN.{pos}
 use lib.ListN.{length}
 use lib.Dec.{ltb}
-use lib.Ieee.{Float, fin, binary64, add, neg, lt, toUnsigned}
-use Rattle.doubles.specs.Doubles.{signOf, wholeOf}
+use lib.Ieee.{Float, fin, neg, lt}
+use Rattle.doubles.specs.Doubles.{signOf}
 use Rattle.ids.specs.Lists.{readAt}
 use Rattle.ids.specs.declared.Key.{Key}
 use Rattle.ticks.specs.WholeTicks.{takenOf}
-use Rattle.ticks.specs.declared.Taken.{Taken}
-use Rattle.ticks.specs.declared.Taken.the-variants as taken
-use Rattle.judge.specs.Answer.{Answer, accepted, refused}
-use Rattle.judge.specs.Judge.{noFaults, bothFaults, dtFaults, floatFaults, fractionFaults}
+use Rattle.judge.specs.Answer.{Answer, accepted, refused, isRefused}
+use Rattle.judge.specs.Judge.{Conditions, ofArguments, ofId, ofTurn, noFaults, bothFaults, dtFaults, floatFaults}
+use Rattle.judge.specs.Judge as judge
 use Rattle.values.specs.Speeds.{speedFaults}
 use Rattle.times.specs.Starts.{startFaults}
+use Rattle.times.specs.Times.{clockTimeFaults, shiftFaults, ticksMore}
 use Rattle.judge.specs.declared.Faults.{Faults}
 use Rattle.times.specs.declared.time.ClockId.{ClockId}
 use Rattle.times.specs.declared.time.ClockTime.{ClockTime}
@@ -49,17 +49,7 @@ use Rattle.laws.specs.Calls.{Call, clock, modulator, frame, ofClock, ofModulato
 use Rattle.demands.specs.Entries.{Lent, Shift, addTicks, subTicks, addFloat, subFloat, Entry, onStation, setFloat, setSpeed, updateFloat, updateSpeed, advanceFloat, advanceSpeed, report, when, readFloat, readSpeed, startIn, makeFloat, makeSpeed, shift}
 use Rattle.demands.specs.Events.{clockIn}
 
--- 7; 1 to 6; 8; 9; 10; 11; 12
-pub record Conditions : Type 0 where
-  pub missing : Bool
-  pub faults : Faults
-  pub noRoom : Bool
-  pub tooFar : Bool
-  pub ticksFull : Bool
-  pub short : Bool
-  pub beforeZero : Bool
-
--- ---- 7, of an id: RULES, no-such
+-- ---- NO_SUCH, of an id: RULES, no-such
 
 abbrev pub noClock : Station → ClockId → Bool
 noClock st id = not (lives ofClock st (id .slot) (id .generation))
@@ -78,7 +68,7 @@ isLfo m = not (isTweener m)
 abbrev pub noneOf : (Modulator → Bool) → Station → ModulatorId → Bool
 noneOf f st id = noModulator st id || not (readAt false (λ s. f (s .modulator)) (st .modulators .slots) (id .slot))
 
--- ---- 8, of an add: RULES, no-room
+-- ---- NO_ROOM, of an add: RULES, no-room
 
 -- occupied, or used up: RULES, retired-slot
 abbrev pub takenOrRetired : Key → Bool
@@ -88,23 +78,19 @@ unfoldable pub everyTaken : List Key → Bool
 everyTaken [] = true
 everyTaken (k ∷ ks) = takenOrRetired k && everyTaken ks
 
--- ---- 9 and 10, of one clock in its turn by dt, with what it sees, as if dt were accepted
+-- ---- TOO_FAR and TICKS_FULL, of one clock in its turn by dt, with what it sees, as if dt were accepted
 
 -- its speed, which is updated first: RULES, clock-update
 abbrev pub spedIn : Info → Clock → Float → SpeedParameter
 spedIn info c dt = speeds.updateOf (c .speed) dt (speedDueOf info (c .speed)) (speedSourceOf info (c .speed)) .parameter
 
--- 9: RULES, too-far
+-- TOO_FAR: RULES, too-far
 abbrev pub tooFarIn : Info → Clock → Float → Bool
 tooFarIn info c dt = c .ticking && lt (fin false 1 (pos 16)) (advanceOf (spedIn info c dt) dt)
 
-abbrev pub isFull : Taken → Bool
-isFull (taken.At p) = false
-isFull taken.Full = true
-
--- 10: RULES, ticks-full
+-- TICKS_FULL: RULES, ticks-full
 abbrev pub ticksFullIn : Info → Clock → Float → Bool
-ticksFullIn info c dt = c .ticking && isFull (takenOf (positionOf (c .state) .ticks) (sumOf (spedIn info c dt) (c .state) dt))
+ticksFullIn info c dt = c .ticking && isRefused (takenOf (positionOf (c .state) .ticks) (sumOf (spedIn info c dt) (c .state) dt))
 
 -- a frame is refused by the first slot in its order that is: of the clock in slot i, where it is occupied, the clocks
 -- standing so: RULES, frame-refused
@@ -127,17 +113,9 @@ inFrame f st dt = lowestIn f (seeing (infoIn st) (turned (infoIn st) dt (st .mod
 
 -- ---- the conditions of a call
 
--- a call on the entry of an id, with these faults
-abbrev pub ofId : Bool → Faults → Conditions
-ofId m f = record { missing = m; faults = f; noRoom = false; tooFar = false; ticksFull = false; short = false; beforeZero = false }
-
 -- an add into a table with these keys
 abbrev pub ofAdd : Faults → List Key → Conditions
-ofAdd f ks = record { missing = false; faults = f; noRoom = everyTaken ks; tooFar = false; ticksFull = false; short = false; beforeZero = false }
-
--- a call that acts on no entry, with these faults
-abbrev pub ofArguments : Faults → Conditions
-ofArguments f = ofId false f
+ofAdd f ks = judge.ofAdd f (everyTaken ks)
 
 -- a set is judged by the present speed too (RULES, bad-reading); where there is no such clock, by the arguments alone
 abbrev pub setFaultsOn : Answer Clock → SpeedValue → Tween → Faults
@@ -166,38 +144,34 @@ ofModulators st (modulators.SetPhase id x) = ofId (noneOf isLfo st id) (floatFau
 ofModulators st (modulators.Value id) = ofId (noModulator st id) noFaults
 
 abbrev pub ofFrame : Station → Float → Conditions
-ofFrame st dt = record { missing = false; faults = dtFaults dt; noRoom = false; tooFar = inFrame tooFarIn st dt; ticksFull = inFrame ticksFullIn st dt; short = false; beforeZero = false }
+ofFrame st dt = ofTurn (dtFaults dt) (inFrame tooFarIn st dt) (inFrame ticksFullIn st dt)
 
 abbrev pub ofCall : Station → Call → Conditions
 ofCall st (clock c) = ofClocks st c
 ofCall st (modulator c) = ofModulators st c
 ofCall st (frame dt) = ofFrame st dt
 
--- 11: RULES, short-buffer
+-- BUFFER: RULES, short-buffer
 abbrev pub ofReport : Station → ClockId → List ℕ → Conditions
-ofReport st id out = record { missing = noClock st id; faults = noFaults; noRoom = false; tooFar = false; ticksFull = false; short = ltb (length out) 96; beforeZero = false }
+ofReport st id out = judge.ofReport (noClock st id) (ltb (length out) 96)
 
 -- ---- a time that is moved
 
--- 10: RULES, ticks-full
+-- TICKS_FULL: RULES, ticks-full
 abbrev pub past : ℕ → Bool
 past n = ltb (2 ^ 64 - 1) n
 
--- 10, of an amount that is added: RULES, add-double and ticks-full
+-- TICKS_FULL, of an amount that is added: RULES, add-double and ticks-full
 abbrev pub pastBy : ClockTime → Float → Bool
-pastBy t x = past (t .ticks + toUnsigned 64 (wholeOf (add binary64 (t .fraction) x)))
+pastBy t x = past (t .ticks + ticksMore t x)
 
--- these faults, 10 and 12
-abbrev pub ofTime : Faults → Bool → Bool → Conditions
-ofTime f u z = record { missing = false; faults = f; noRoom = false; tooFar = false; ticksFull = u; short = false; beforeZero = z }
-
--- 12 of whole ticks: RULES, before-zero. A double with its sign bit set is the opposite call (RULES, opposite); one
--- that is subtracted stops at 0, so 12 is not asked of it, and 10 is asked only of what is added
+-- BEFORE_ZERO of whole ticks: RULES, before-zero. A double with its sign bit set is the opposite call (RULES,
+-- opposite); one that is subtracted stops at 0, so BEFORE_ZERO is not asked of it, and TICKS_FULL only of what is added
 abbrev pub ofShift : ClockTime → Shift → Conditions
-ofShift t (addTicks n) = ofTime (fractionFaults (t .fraction)) (past (t .ticks + n)) false
-ofShift t (subTicks n) = ofTime (fractionFaults (t .fraction)) false (ltb (t .ticks) n)
-ofShift t (addFloat x) = ofTime (bothFaults (floatFaults x) (fractionFaults (t .fraction))) (not (signOf x) && pastBy t x) false
-ofShift t (subFloat x) = ofTime (bothFaults (floatFaults x) (fractionFaults (t .fraction))) (signOf x && pastBy t (neg x)) false
+ofShift t (addTicks n) = judge.ofShift (clockTimeFaults t) (past (t .ticks + n)) false
+ofShift t (subTicks n) = judge.ofShift (clockTimeFaults t) false (ltb (t .ticks) n)
+ofShift t (addFloat x) = judge.ofShift (shiftFaults t x) (not (signOf x) && pastBy t x) false
+ofShift t (subFloat x) = judge.ofShift (shiftFaults t x) (signOf x && pastBy t (neg x)) false
 
 -- ---- every call
 
@@ -210,7 +184,7 @@ conditionsOf l (updateSpeed dt) = ofArguments (dtFaults dt)
 conditionsOf l (advanceFloat dt w i) = ofArguments (dtFaults dt)
 conditionsOf l (advanceSpeed dt w i) = ofArguments (dtFaults dt)
 conditionsOf l (report id) = ofReport (l .station) id (l .buffer)
-conditionsOf l (when t) = ofArguments (fractionFaults (t .fraction))
+conditionsOf l (when t) = ofArguments (clockTimeFaults t)
 conditionsOf l (readFloat v) = ofArguments (floatValueFaults v)
 conditionsOf l (readSpeed v) = ofArguments (speedValueFaults v)
 conditionsOf l (startIn s dt) = ofArguments (bothFaults (dtFaults dt) (startFaults s))

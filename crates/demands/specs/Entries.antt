@@ -2,10 +2,12 @@
 -- is handed back; each by the definition that the entry's own contract cites. 01, "Refusal numbers". RULES,
 -- exact-refusals. Assumes nothing.
 use Prim.Native.Nat.{ℕ, _≤_}
+use mathlib.Core.Bool.{Bool, not}
 use mathlib.Core.List.{List}
 use lib.ListN.{length}
+use lib.Dec.{eqb}
 use lib.Ieee.{Float}
-use Rattle.judge.specs.Answer.{Answer, accepted, refused}
+use Rattle.judge.specs.Answer.{Answer, isRefused, numberTold}
 use Rattle.times.specs.Times.{tryAddTicksOf, trySubTicksOf, tryAddFloatOf, trySubFloatOf}
 use Rattle.values.specs.declared.clock_speed.ClockSpeed.{ClockSpeed}
 use Rattle.times.specs.declared.start_time.StartTime.{StartTime}
@@ -25,7 +27,7 @@ use Rattle.info.specs.ParametersIn.{tryUpdateFloatIn, tryUpdateSpeedIn}
 use Rattle.station.specs.Stations.{infoIn}
 use Rattle.station.specs.declared.Station.{Station}
 use Rattle.report.specs.Reports.{reportOf}
-use Rattle.laws.specs.Calls.{Call, after, numberOf}
+use Rattle.laws.specs.Calls.{Call, after, told, callNumber}
 
 -- what a caller lends: a station, a parameter of each kind that is its own, and a buffer of bytes
 pub record Lent : Type 0 where
@@ -56,8 +58,8 @@ shiftedOf t (subFloat x) = trySubFloatOf t x
 -- On the station: a command on its clocks or its modulators, or a frame. On the caller's parameters: a set, an update
 -- that sees the station, and one that is told what it sees (`advanceFloat`, `advanceSpeed`). A clock's report. What
 -- only looks at the station: whether a start has come (`when`), a value that is read, a start that is updated. What is
--- lent nothing: a parameter that is made, which is a new one, and a time that is moved, with TICKS_FULL, 10, and
--- BEFORE_ZERO, 12, which is its alone.
+-- lent nothing: a parameter that is made, which is a new one, and a time that is moved, with TICKS_FULL, and
+-- BEFORE_ZERO, which is its alone.
 -- Every public function of the core that can be refused is here, with these exceptions:
 --   the calls on a table of clocks or modulators by itself (`add_clock`, `set_tweener`, ..): a command runs the one of
 --     its name, by the same definition;
@@ -66,8 +68,9 @@ shiftedOf t (subFloat x) = trySubFloatOf t x
 --     `try_from_ticks_f64`, `try_partial_cmp`, `try_apply`, `try_wave_value`, `try_map_float`, `try_map_speed`,
 --     `try_map_output`, `try_value_output`): each is `judged` with its faults and an accepted answer, and
 --     `judged-exactly` of `Exactly` speaks of all such;
---   the parts of entries (`more_ticks`, `take_ticks`, `update_clock`, `turn_clock`, `look`), whose 7, 9 and 10 are here
---     as those of the frame, of a time that is moved, and of the commands and the report.
+--   the parts of entries (`more_ticks`, `take_ticks`, `update_clock`, `turn_clock`, `find`, `look`, `free`, `place`,
+--     `run_clock`, `run_modulator`), whose numbers are here as those of the frame, of a time that is moved, and of the
+--     calls on the station and the report.
 pub data Entry : Type 0 where
   onStation : Call → Entry
   setFloat : FloatValue → Tween → Entry
@@ -85,13 +88,9 @@ pub data Entry : Type 0 where
   makeSpeed : SpeedValue → ClockSpeed → Entry
   shift : ClockTime → Shift → Entry
 
-abbrev pub numberTold : {A : Type 0} → Answer A → ℕ
-numberTold (accepted x) = 0
-numberTold (refused n) = n
-
 -- the number of the refusal, 0 where there is none: RULES, refusal and ok
 abbrev pub numberGiven : Lent → Entry → ℕ
-numberGiven l (onStation c) = numberOf (l .station) c
+numberGiven l (onStation c) = callNumber (l .station) c
 numberGiven l (setFloat v w) = floats.trySetOf (l .float) v w .refused
 numberGiven l (setSpeed v w) = speeds.trySetOf (l .speed) v w .refused
 numberGiven l (updateFloat dt) = tryUpdateFloatIn (infoIn (l .station)) (l .float) dt .refused
@@ -106,6 +105,24 @@ numberGiven l (startIn s dt) = numberTold (tryUpdateStartIn (infoIn (l .station)
 numberGiven l (makeFloat v d) = numberTold (floats.tryNewOf v d)
 numberGiven l (makeSpeed v d) = numberTold (speeds.tryNewOf v d)
 numberGiven l (shift t s) = numberTold (shiftedOf t s)
+
+-- whether the answer is a refusal: an answer that says so, or a number beside what is handed back
+abbrev pub isRefusal : Lent → Entry → Bool
+isRefusal l (onStation c) = isRefused (told (l .station) c)
+isRefusal l (setFloat v w) = not (eqb (numberGiven l (setFloat v w)) 0)
+isRefusal l (setSpeed v w) = not (eqb (numberGiven l (setSpeed v w)) 0)
+isRefusal l (updateFloat dt) = not (eqb (numberGiven l (updateFloat dt)) 0)
+isRefusal l (updateSpeed dt) = not (eqb (numberGiven l (updateSpeed dt)) 0)
+isRefusal l (advanceFloat dt w i) = not (eqb (numberGiven l (advanceFloat dt w i)) 0)
+isRefusal l (advanceSpeed dt w i) = not (eqb (numberGiven l (advanceSpeed dt w i)) 0)
+isRefusal l (report id) = isRefused (reportOf (l .station .clocks) id (l .buffer) .answer)
+isRefusal l (when t) = isRefused (tryWhenToStartOf (infoIn (l .station)) t)
+isRefusal l (readFloat v) = isRefused (tryRawFloatIn (infoIn (l .station)) v)
+isRefusal l (readSpeed v) = isRefused (tryRawSpeedIn (infoIn (l .station)) v)
+isRefusal l (startIn s dt) = isRefused (tryUpdateStartIn (infoIn (l .station)) s dt)
+isRefusal l (makeFloat v d) = isRefused (floats.tryNewOf v d)
+isRefusal l (makeSpeed v d) = isRefused (speeds.tryNewOf v d)
+isRefusal l (shift t s) = isRefused (shiftedOf t s)
 
 abbrev pub withStation : Lent → Station → Lent
 withStation l st = record { station = st; float = l .float; speed = l .speed; buffer = l .buffer }

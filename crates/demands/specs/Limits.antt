@@ -1,17 +1,19 @@
--- The limits of the refusals 1 to 6, and of 10 and 12 for a time that is moved, as one table with one claim: each just
--- inside and just outside, at each argument that takes it, the other arguments being well. 01, "Refusal numbers" and
--- "Speeds". RULES, refusal-numbers. Assumes nothing.
+-- The limits of the refusals of arguments, and of TICKS_FULL and BEFORE_ZERO for a time that is moved, as one table
+-- with one claim: each just inside and just outside, at each argument that takes it, the other arguments being well.
+-- 01, "Refusal numbers" and "Speeds". RULES, refusal-numbers. Assumes nothing.
 use Prim.Native.Nat.{ℕ}
 use mathlib.Core.Bool.{Bool, true, false}
 use mathlib.Core.List.{List, [], _∷_, _++_}
 use lib.Dec.{T, eqb}
 use lib.Ieee.{Float, binary64, ofBits, add, sub, mul, div, rem, neg, lt, le, eq, toUnsigned}
-use Rattle.judge.specs.Judge.{firstFault, dtFaults}
+use Rattle.judge.specs.Answer.{numberTold}
+use Rattle.judge.specs.Judge.{numberOf, firstFault, dtFaults}
+use Rattle.judge.specs.Numbers.{«BAD_DT», «BAD_FLOAT», «BAD_SPEED», «BAD_EASE», «BAD_MAP», «BAD_TIME», «TICKS_FULL», «BEFORE_ZERO»}
 use Rattle.values.specs.Speeds.{trySptOf, tryTpsOf, tryTpmOf, tryInterpolateSpeedOf}
 use Rattle.values.specs.Tweenables.{tryInterpolateOf}
 use Rattle.times.specs.Durations.{trySecondsOf}
 use Rattle.times.specs.Starts.{tryUpdateOf}
-use Rattle.times.specs.Times.{tryFromFloatOf, tryAddTicksOf, trySubTicksOf, laterOf, earlierOf, tryAddFloatOf, trySubFloatOf, tryOrderOf}
+use Rattle.times.specs.Times.{timeAt, tryFromFloatOf, tryAddTicksOf, trySubTicksOf, laterOf, earlierOf, tryAddFloatOf, trySubFloatOf, tryOrderOf}
 use Rattle.times.specs.declared.time.ClockId.{ClockId}
 use Rattle.times.specs.declared.time.ClockTime.{ClockTime}
 use Rattle.values.specs.declared.clock_speed.ClockSpeed.{ClockSpeed}
@@ -43,7 +45,6 @@ use Rattle.modulator.specs.Tweeners.{tweenerFaults}
 use Rattle.modulator.specs.Lfos.{builderFaults}
 use Rattle.modulator.specs.declared.lfo.LfoBuilder.{LfoBuilder}
 use Rattle.station.specs.Stations.{freshStation, infoIn}
-use Rattle.demands.specs.Entries.{numberTold}
 
 -- The number that is given, and the number that the rules say. What is given is computed by the very definitions that
 -- the entries' statements use, so one that forgot an argument or moved a limit fails the table. Doubles are written by
@@ -86,12 +87,12 @@ first = record { slot = 0; generation = 1 }
 abbrev source : ModulatorId
 source = record { slot = 0; generation = 1 }
 
--- a time with this fraction, and one at the last tick
-abbrev timeAt : Float → ClockTime
-timeAt g = record { clock = first; ticks = 5; fraction = g }
+-- the fifth tick with this fraction, and the last one
+abbrev fifthAt : Float → ClockTime
+fifthAt g = timeAt first 5 g
 
 abbrev lastAt : Float → ClockTime
-lastAt g = record { clock = first; ticks = 18_446_744_073_709_551_615; fraction = g }
+lastAt g = timeAt first 18_446_744_073_709_551_615 g
 
 abbrev tweenOf : StartTime → ℕ → Easing → Tween
 tweenOf s n e = record { «start_time» = s; duration = n; easing = e }
@@ -120,82 +121,82 @@ present s = speeds.newOf (toSpeed.Fixed s) s
 
 -- ---- the limits of one argument: f is the number that a call gives to it, the others being well
 
--- 1: RULES, bad-dt
+-- BAD_DT: RULES, bad-dt
 abbrev dts : (Float → ℕ) → List Limit
 dts f =
     limit (f (double 0)) 0
-    ∷ limit (f (double 0x8000_0000_0000_0000)) 1
+    ∷ limit (f (double 0x8000_0000_0000_0000)) «BAD_DT»
     ∷ limit (f (double 0x404e_0000_0000_0000)) 0
-    ∷ limit (f (double 0x404e_0000_0000_0001)) 1
-    ∷ limit (f (double 0xbff0_0000_0000_0000)) 1
-    ∷ limit (f aNan) 1
-    ∷ limit (f infinite) 1
+    ∷ limit (f (double 0x404e_0000_0000_0001)) «BAD_DT»
+    ∷ limit (f (double 0xbff0_0000_0000_0000)) «BAD_DT»
+    ∷ limit (f aNan) «BAD_DT»
+    ∷ limit (f infinite) «BAD_DT»
     ∷ []
 
--- 2: RULES, bad-float
+-- BAD_FLOAT: RULES, bad-float
 abbrev doubles : (Float → ℕ) → List Limit
 doubles f =
     limit (f (double 0x4270_0000_0000_0000)) 0
-    ∷ limit (f (double 0x4270_0000_0000_0001)) 2
+    ∷ limit (f (double 0x4270_0000_0000_0001)) «BAD_FLOAT»
     ∷ limit (f (double 0xc270_0000_0000_0000)) 0
-    ∷ limit (f (double 0xc270_0000_0000_0001)) 2
-    ∷ limit (f aNan) 2
-    ∷ limit (f infinite) 2
+    ∷ limit (f (double 0xc270_0000_0000_0001)) «BAD_FLOAT»
+    ∷ limit (f aNan) «BAD_FLOAT»
+    ∷ limit (f infinite) «BAD_FLOAT»
     ∷ []
 
--- 3, of one unit: RULES, speed-range; z is the number at 0, of either sign
+-- BAD_SPEED, of one unit: RULES, speed-range; z is the number at 0, of either sign
 abbrev paces : ℕ → (Float → ℕ) → List Limit
 paces z f =
     limit (f (double 0)) z
     ∷ limit (f (double 0x8000_0000_0000_0000)) z
     ∷ limit (f (double 0x3eb0_0000_0000_0000)) 0
-    ∷ limit (f (double 0x3eaf_ffff_ffff_ffff)) 3
+    ∷ limit (f (double 0x3eaf_ffff_ffff_ffff)) «BAD_SPEED»
     ∷ limit (f (double 0x4130_0000_0000_0000)) 0
-    ∷ limit (f (double 0x4130_0000_0000_0001)) 3
-    ∷ limit (f (double 0xbff0_0000_0000_0000)) 3
-    ∷ limit (f aNan) 3
-    ∷ limit (f infinite) 3
+    ∷ limit (f (double 0x4130_0000_0000_0001)) «BAD_SPEED»
+    ∷ limit (f (double 0xbff0_0000_0000_0000)) «BAD_SPEED»
+    ∷ limit (f aNan) «BAD_SPEED»
+    ∷ limit (f infinite) «BAD_SPEED»
     ∷ []
 
--- 3, of each unit: RULES, speed-range; 0 is no number of seconds per tick
+-- BAD_SPEED, of each unit: RULES, speed-range; 0 is no number of seconds per tick
 abbrev speedsAt : (ClockSpeed → ℕ) → List Limit
-speedsAt f = paces 3 (λ x. f (SecondsPerTick x)) ++ paces 0 (λ x. f (TicksPerSecond x)) ++ paces 0 (λ x. f (TicksPerMinute x))
+speedsAt f = paces «BAD_SPEED» (λ x. f (SecondsPerTick x)) ++ paces 0 (λ x. f (TicksPerSecond x)) ++ paces 0 (λ x. f (TicksPerMinute x))
 
--- 4: RULES, bad-ease
+-- BAD_EASE: RULES, bad-ease
 abbrev powers : (ℕ → ℕ) → List Limit
-powers f = limit (f 0) 4 ∷ limit (f 1) 0 ∷ limit (f 16) 0 ∷ limit (f 17) 4 ∷ []
+powers f = limit (f 0) «BAD_EASE» ∷ limit (f 1) 0 ∷ limit (f 16) 0 ∷ limit (f 17) «BAD_EASE» ∷ []
 
 abbrev easings : (Easing → ℕ) → List Limit
 easings f = limit (f Linear) 0 ∷ powers (λ n. f (InPowi n)) ++ powers (λ n. f (OutPowi n)) ++ powers (λ n. f (InOutPowi n))
 
--- 5: RULES, bad-map; a range from high to low is well: RULES, reversed-range
+-- BAD_MAP: RULES, bad-map; a range from high to low is well: RULES, reversed-range
 abbrev ranges : (Float → Float → ℕ) → List Limit
 ranges f =
-    limit (f one one) 5
-    ∷ limit (f (double 0) (double 0x8000_0000_0000_0000)) 5
-    ∷ limit (f (double 0x8000_0000_0000_0000) (double 0)) 5
+    limit (f one one) «BAD_MAP»
+    ∷ limit (f (double 0) (double 0x8000_0000_0000_0000)) «BAD_MAP»
+    ∷ limit (f (double 0x8000_0000_0000_0000) (double 0)) «BAD_MAP»
     ∷ limit (f one (double 0x3ff0_0000_0000_0001)) 0
     ∷ limit (f three one) 0
     ∷ []
 
--- 6, of a fraction: RULES, bad-time
+-- BAD_TIME, of a fraction: RULES, bad-time
 abbrev fractions : (Float → ℕ) → List Limit
 fractions f =
     limit (f (double 0)) 0
-    ∷ limit (f (double 0x8000_0000_0000_0000)) 6
+    ∷ limit (f (double 0x8000_0000_0000_0000)) «BAD_TIME»
     ∷ limit (f (double 0x3fef_ffff_ffff_ffff)) 0
-    ∷ limit (f one) 6
-    ∷ limit (f (double 0xbfe0_0000_0000_0000)) 6
-    ∷ limit (f aNan) 6
-    ∷ limit (f infinite) 6
+    ∷ limit (f one) «BAD_TIME»
+    ∷ limit (f (double 0xbfe0_0000_0000_0000)) «BAD_TIME»
+    ∷ limit (f aNan) «BAD_TIME»
+    ∷ limit (f infinite) «BAD_TIME»
     ∷ []
 
--- 6, of a duration or a delay: RULES, bad-time
+-- BAD_TIME, of a duration or a delay: RULES, bad-time
 abbrev spans : (ℕ → ℕ) → List Limit
-spans f = limit (f 86_400_000_000_000) 0 ∷ limit (f 86_400_000_000_001) 6 ∷ []
+spans f = limit (f 86_400_000_000_000) 0 ∷ limit (f 86_400_000_000_001) «BAD_TIME» ∷ []
 
 abbrev starts : (StartTime → ℕ) → List Limit
-starts f = limit (f Immediate) 0 ∷ spans (λ n. f (Delayed n)) ++ fractions (λ g. f (At (timeAt g)))
+starts f = limit (f Immediate) 0 ∷ spans (λ n. f (Delayed n)) ++ fractions (λ g. f (At (fifthAt g)))
 
 abbrev tweens : (Tween → ℕ) → List Limit
 tweens f = starts (λ s. f (tweenOf s 0 Linear)) ++ spans (λ n. f (tweenOf Immediate n Linear)) ++ easings (λ e. f (tweenOf Immediate 0 e))
@@ -209,20 +210,20 @@ floatMaps f =
     ++ ranges (λ x y. f (floatMap x y one three Linear))
     ++ easings (λ e. f (floatMap one three one three e))
 
--- 3, of two ends in two units: RULES, speed-mapping
+-- BAD_SPEED, of two ends in two units: RULES, speed-mapping
 abbrev speedMaps : (SpeedMapping → ℕ) → List Limit
 speedMaps f =
     doubles (λ x. f (speedMap x three perSecond perSecond Linear))
     ++ doubles (λ x. f (speedMap one x perSecond perSecond Linear))
     ++ paces 0 (λ x. f (speedMap one three (TicksPerSecond x) perSecond Linear))
     ++ paces 0 (λ x. f (speedMap one three perSecond (TicksPerSecond x) Linear))
-    ++ paces 3 (λ x. f (speedMap one three (SecondsPerTick x) (SecondsPerTick one) Linear))
-    ++ paces 3 (λ x. f (speedMap one three (SecondsPerTick one) (SecondsPerTick x) Linear))
+    ++ paces «BAD_SPEED» (λ x. f (speedMap one three (SecondsPerTick x) (SecondsPerTick one) Linear))
+    ++ paces «BAD_SPEED» (λ x. f (speedMap one three (SecondsPerTick one) (SecondsPerTick x) Linear))
     ++ ranges (λ x y. f (speedMap x y perSecond perSecond Linear))
     ++ easings (λ e. f (speedMap one three perSecond perSecond e))
-    ++ limit (f (speedMap one three perSecond (TicksPerMinute one) Linear)) 3
-    ∷ limit (f (speedMap one three (SecondsPerTick one) perSecond Linear)) 3
-    ∷ limit (f (speedMap one three (TicksPerMinute one) (SecondsPerTick one) Linear)) 3
+    ++ limit (f (speedMap one three perSecond (TicksPerMinute one) Linear)) «BAD_SPEED»
+    ∷ limit (f (speedMap one three (SecondsPerTick one) perSecond Linear)) «BAD_SPEED»
+    ∷ limit (f (speedMap one three (TicksPerMinute one) (SecondsPerTick one) Linear)) «BAD_SPEED»
     ∷ []
 
 abbrev floatValues : (FloatValue → ℕ) → List Limit
@@ -238,17 +239,17 @@ abbrev alone : List Limit
 alone =
     dts (λ x. firstFault (dtFaults x))
     ++ speedValues (λ v. firstFault (speedValueFaults v))
-    ++ fractions (λ g. numberTold (tryWhenToStartOf (infoIn freshStation) (timeAt g)))
+    ++ fractions (λ g. numberTold (tryWhenToStartOf (infoIn freshStation) (fifthAt g)))
     ++ floatValues (λ v. numberTold (tryRawFloatIn (infoIn freshStation) v))
     ++ speedValues (λ v. numberTold (tryRawSpeedIn (infoIn freshStation) v))
     ++ dts (λ x. numberTold (tryUpdateStartIn (infoIn freshStation) Immediate x))
     ++ starts (λ s. numberTold (tryUpdateStartIn (infoIn freshStation) s one))
 
--- 3, of a speed that cannot be read in the target's unit: RULES, bad-reading
+-- BAD_SPEED, of a speed that cannot be read in the target's unit: RULES, bad-reading
 abbrev readings : (ClockSpeed → ClockSpeed → ℕ) → List Limit
 readings f =
-    limit (f (TicksPerSecond (double 0)) (SecondsPerTick one)) 3
-    ∷ limit (f (TicksPerMinute (double 0)) (SecondsPerTick one)) 3
+    limit (f (TicksPerSecond (double 0)) (SecondsPerTick one)) «BAD_SPEED»
+    ∷ limit (f (TicksPerMinute (double 0)) (SecondsPerTick one)) «BAD_SPEED»
     ∷ limit (f (TicksPerSecond (double 0)) perSecond) 0
     ∷ []
 
@@ -260,7 +261,7 @@ speedSets =
     ++ readings (λ s t. firstFault (speeds.setFaults (present s) (toSpeed.Fixed t) tween))
     ++ readings (λ s t. firstFault (speeds.setFaults (present s) (toSpeed.FromModulator source (speedMap one three t t Linear)) tween))
     ++ limit (firstFault (speeds.setFaults (present (TicksPerSecond (double 0x41a0_0000_0000_0000))) (toSpeed.Fixed perSecond) tween)) 0
-    ∷ limit (firstFault (speeds.setFaults (present (TicksPerSecond (double 0x41a0_0000_0000_0001))) (toSpeed.Fixed perSecond) tween)) 3
+    ∷ limit (firstFault (speeds.setFaults (present (TicksPerSecond (double 0x41a0_0000_0000_0001))) (toSpeed.Fixed perSecond) tween)) «BAD_SPEED»
     ∷ []
 
 -- a float parameter, or an LFO's, that is set
@@ -305,35 +306,35 @@ speedCalls =
     ++ doubles (λ x. numberTold (tryInterpolateOf one x one))
     ++ doubles (λ x. numberTold (tryInterpolateOf one one x))
 
--- 6, of a double with its sign bit set that is to be a time: RULES, time-from-double. 10: RULES, ticks-full. 12: RULES,
--- before-zero
+-- BAD_TIME, of a double with its sign bit set that is to be a time, TICKS_FULL and BEFORE_ZERO:
+-- RULES, time-from-double, ticks-full and before-zero
 abbrev timeCalls : List Limit
 timeCalls =
     limit (numberTold (tryFromFloatOf first (double 0))) 0
-    ∷ limit (numberTold (tryFromFloatOf first (double 0x8000_0000_0000_0000))) 6
-    ∷ limit (numberTold (tryFromFloatOf first (double 0xbff0_0000_0000_0000))) 6
+    ∷ limit (numberTold (tryFromFloatOf first (double 0x8000_0000_0000_0000))) «BAD_TIME»
+    ∷ limit (numberTold (tryFromFloatOf first (double 0xbff0_0000_0000_0000))) «BAD_TIME»
     ∷ limit (numberTold (tryFromFloatOf first (double 0x4270_0000_0000_0000))) 0
-    ∷ limit (numberTold (tryFromFloatOf first (double 0x4270_0000_0000_0001))) 2
-    ∷ limit (numberTold (tryFromFloatOf first aNan)) 2
-    ∷ limit (numberTold (tryAddTicksOf (timeAt (double 0)) 18_446_744_073_709_551_610)) 0
-    ∷ limit (numberTold (tryAddTicksOf (timeAt (double 0)) 18_446_744_073_709_551_611)) 10
-    ∷ limit (numberTold (trySubTicksOf (timeAt (double 0)) 5)) 0
-    ∷ limit (numberTold (trySubTicksOf (timeAt (double 0)) 6)) 12
+    ∷ limit (numberTold (tryFromFloatOf first (double 0x4270_0000_0000_0001))) «BAD_FLOAT»
+    ∷ limit (numberTold (tryFromFloatOf first aNan)) «BAD_FLOAT»
+    ∷ limit (numberTold (tryAddTicksOf (fifthAt (double 0)) 18_446_744_073_709_551_610)) 0
+    ∷ limit (numberTold (tryAddTicksOf (fifthAt (double 0)) 18_446_744_073_709_551_611)) «TICKS_FULL»
+    ∷ limit (numberTold (trySubTicksOf (fifthAt (double 0)) 5)) 0
+    ∷ limit (numberTold (trySubTicksOf (fifthAt (double 0)) 6)) «BEFORE_ZERO»
     ∷ limit (numberTold (tryAddFloatOf (lastAt (double 0x3fd0_0000_0000_0000)) (double 0x3fe0_0000_0000_0000))) 0
-    ∷ limit (numberTold (tryAddFloatOf (lastAt (double 0x3fe0_0000_0000_0000)) (double 0x3fe0_0000_0000_0000))) 10
+    ∷ limit (numberTold (tryAddFloatOf (lastAt (double 0x3fe0_0000_0000_0000)) (double 0x3fe0_0000_0000_0000))) «TICKS_FULL»
     ∷ limit (numberTold (tryAddFloatOf (lastAt (double 0x3fe0_0000_0000_0000)) (double 0xbfe0_0000_0000_0000))) 0
     ∷ limit (numberTold (trySubFloatOf (lastAt (double 0x3fd0_0000_0000_0000)) (double 0xbfe0_0000_0000_0000))) 0
-    ∷ limit (numberTold (trySubFloatOf (lastAt (double 0x3fe0_0000_0000_0000)) (double 0xbfe0_0000_0000_0000))) 10
+    ∷ limit (numberTold (trySubFloatOf (lastAt (double 0x3fe0_0000_0000_0000)) (double 0xbfe0_0000_0000_0000))) «TICKS_FULL»
     ∷ limit (numberTold (trySubFloatOf (lastAt (double 0x3fe0_0000_0000_0000)) (double 0x3fe0_0000_0000_0000))) 0
-    ∷ limit (numberTold (trySubFloatOf (timeAt (double 0)) (double 0x4018_0000_0000_0000))) 0
-    ∷ fractions (λ g. numberTold (tryAddTicksOf (timeAt g) 1))
-    ++ fractions (λ g. numberTold (trySubTicksOf (timeAt g) 1))
-    ++ fractions (λ g. numberTold (tryAddFloatOf (timeAt g) one))
-    ++ doubles (λ x. numberTold (tryAddFloatOf (timeAt (double 0)) x))
-    ++ fractions (λ g. numberTold (trySubFloatOf (timeAt g) one))
-    ++ doubles (λ x. numberTold (trySubFloatOf (timeAt (double 0)) x))
-    ++ fractions (λ g. numberTold (tryOrderOf (timeAt g) (timeAt (double 0))))
-    ++ fractions (λ g. numberTold (tryOrderOf (timeAt (double 0)) (timeAt g)))
+    ∷ limit (numberTold (trySubFloatOf (fifthAt (double 0)) (double 0x4018_0000_0000_0000))) 0
+    ∷ fractions (λ g. numberTold (tryAddTicksOf (fifthAt g) 1))
+    ++ fractions (λ g. numberTold (trySubTicksOf (fifthAt g) 1))
+    ++ fractions (λ g. numberTold (tryAddFloatOf (fifthAt g) one))
+    ++ doubles (λ x. numberTold (tryAddFloatOf (fifthAt (double 0)) x))
+    ++ fractions (λ g. numberTold (trySubFloatOf (fifthAt g) one))
+    ++ doubles (λ x. numberTold (trySubFloatOf (fifthAt (double 0)) x))
+    ++ fractions (λ g. numberTold (tryOrderOf (fifthAt g) (fifthAt (double 0))))
+    ++ fractions (λ g. numberTold (tryOrderOf (fifthAt (double 0)) (fifthAt g)))
     ++ spans (λ n. numberTold (trySecondsOf n))
     ++ dts (λ x. numberTold (tryUpdateOf Immediate x Later))
     ++ starts (λ s. numberTold (tryUpdateOf s one Later))
@@ -358,19 +359,19 @@ valueCalls =
     ++ doubles (λ x. numberTold (tryValueOutputOf fixed (op.Div x)))
     ++ doubles (λ x. numberTold (tryValueOutputOf fixed (op.Rem x)))
     ++ limit (numberTold (tryValueOutputOf (toFloat.Fixed (double 0x4270_0000_0000_0000)) (op.Mul one))) 0
-    ∷ limit (numberTold (tryValueOutputOf (toFloat.Fixed (double 0x4270_0000_0000_0000)) (op.Add one))) 2
-    ∷ limit (numberTold (tryValueOutputOf fixed (op.Div (double 0)))) 2
-    ∷ limit (numberTold (tryValueOutputOf fixed (op.Rem (double 0)))) 2
-    ∷ limit (numberTold (tryMapOutputOf (floatMap one three (double 0x4270_0000_0000_0000) one Linear) (op.Add one))) 2
-    ∷ limit (numberTold (tryMapOutputOf (floatMap one three one (double 0x4270_0000_0000_0000) Linear) (op.Add one))) 2
+    ∷ limit (numberTold (tryValueOutputOf (toFloat.Fixed (double 0x4270_0000_0000_0000)) (op.Add one))) «BAD_FLOAT»
+    ∷ limit (numberTold (tryValueOutputOf fixed (op.Div (double 0)))) «BAD_FLOAT»
+    ∷ limit (numberTold (tryValueOutputOf fixed (op.Rem (double 0)))) «BAD_FLOAT»
+    ∷ limit (numberTold (tryMapOutputOf (floatMap one three (double 0x4270_0000_0000_0000) one Linear) (op.Add one))) «BAD_FLOAT»
+    ∷ limit (numberTold (tryMapOutputOf (floatMap one three one (double 0x4270_0000_0000_0000) Linear) (op.Add one))) «BAD_FLOAT»
     ∷ limit (numberTold (tryMapOutputOf (floatMap one three one (double 0x4270_0000_0000_0000) Linear) (op.Sub one))) 0
     ∷ []
 
 pub table : List Limit
 table = alone ++ speedSets ++ floatSets ++ modulators ++ made ++ speedCalls ++ timeCalls ++ valueCalls
 
--- The one claim. It shows that no argument is forgotten and no limit is moved in the definitions of 1 to 6, which
--- `exactly` takes as they are. Between the rows it says nothing: there the definitions are read against RULES.
+-- The one claim. It shows that no argument is forgotten and no limit is moved in the definitions of arguments' faults,
+-- which `exactly` takes as they are. Between the rows it says nothing: there the definitions are read against RULES.
 pub limits : T (all table)
-unfolding all table firstFault ofBits add sub mul div rem neg lt le eq toUnsigned tryInterpolateOf trySptOf tryTpsOf tryTpmOf tryInterpolateSpeedOf trySecondsOf tryUpdateOf tryFromFloatOf tryAddTicksOf trySubTicksOf laterOf earlierOf tryAddFloatOf trySubFloatOf tryOrderOf tryApplyOf tryMapFloatOf tryMapSpeedOf tryMapOutputOf tryValueOutputOf tryWaveValueOf tryWhenToStartOf tryRawFloatIn tryRawSpeedIn floats.tryNewOf speeds.tryNewOf
+unfolding all table numberOf firstFault ofBits add sub mul div rem neg lt le eq toUnsigned tryInterpolateOf trySptOf tryTpsOf tryTpmOf tryInterpolateSpeedOf trySecondsOf tryUpdateOf tryFromFloatOf tryAddTicksOf trySubTicksOf laterOf earlierOf tryAddFloatOf trySubFloatOf tryOrderOf tryApplyOf tryMapFloatOf tryMapSpeedOf tryMapOutputOf tryValueOutputOf tryWaveValueOf tryWhenToStartOf tryRawFloatIn tryRawSpeedIn floats.tryNewOf speeds.tryNewOf
 limits = tt

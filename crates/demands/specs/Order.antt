@@ -3,30 +3,22 @@
 use Prim.Native.Nat.{ℕ}
 use mathlib.Core.Path.{_≡_}
 use mathlib.Core.Bool.{Bool, true, false, _||_, cond}
-use mathlib.Core.List.{List, [], _∷_}
+use mathlib.Core.List.{List, [], _∷_, map}
 use lib.Dec.{eqb}
 use Rattle.laws.specs.SoundStation.{All}
-use Rattle.demands.specs.Conditions.{Conditions}
+use Rattle.judge.specs.Judge.{Conditions, ofArguments, noFaults, Judged, inOrder}
 
--- 7, and then 1 to 12 without it: RULES, order
+-- every number, as the one list of the crate `judge` asks them: RULES, order
 abbrev pub order : List ℕ
-order = 7 ∷ 1 ∷ 2 ∷ 3 ∷ 4 ∷ 5 ∷ 6 ∷ 8 ∷ 9 ∷ 10 ∷ 11 ∷ 12 ∷ []
+order = map (λ j. j .number) (inOrder (ofArguments noFaults))
 
 -- whether the condition of a number holds
+abbrev pub holdsIn : List Judged → ℕ → Bool
+holdsIn [] n = false
+holdsIn (j ∷ js) n = cond (eqb (j .number) n) (j .holds) (holdsIn js n)
+
 abbrev pub holds : Conditions → ℕ → Bool
-holds c n =
-    cond (eqb n 1) (c .faults .dt)
-    (cond (eqb n 2) (c .faults .float)
-    (cond (eqb n 3) (c .faults .speed)
-    (cond (eqb n 4) (c .faults .ease)
-    (cond (eqb n 5) (c .faults .map)
-    (cond (eqb n 6) (c .faults .time)
-    (cond (eqb n 7) (c .missing)
-    (cond (eqb n 8) (c .noRoom)
-    (cond (eqb n 9) (c .tooFar)
-    (cond (eqb n 10) (c .ticksFull)
-    (cond (eqb n 11) (c .short)
-    (cond (eqb n 12) (c .beforeZero) false)))))))))))
+holds c n = holdsIn (inOrder c) n
 
 -- the first of these numbers whose condition holds, and 0 where none does
 unfoldable pub firstIn : List ℕ → (ℕ → Bool) → ℕ

@@ -6,10 +6,10 @@ use mathlib.Core.List.{List, [], _∷_, _++_}
 use lib.Dec.{T, eqb}
 use lib.Ieee.{Float, binary64, ofBits, toBits, add, sub, mul, div, rem, lt, le, eq, toUnsigned, ofInt}
 use Rattle.judge.specs.Answer.{Answer, accepted, refused}
-use Rattle.judge.specs.Judge.{firstFault}
+use Rattle.judge.specs.Judge.{numberOf, firstFault}
 use Rattle.values.specs.Speeds.{tryTpsOf}
 use Rattle.times.specs.Durations.{nanosOf, secondsOf}
-use Rattle.times.specs.Times.{tryFromFloatOf, tryAddFloatOf, trySubFloatOf, laterOf, earlierOf}
+use Rattle.times.specs.Times.{timeAt, tryFromFloatOf, tryAddFloatOf, trySubFloatOf, laterOf, earlierOf}
 use Rattle.times.specs.declared.time.ClockId.{ClockId}
 use Rattle.times.specs.declared.time.ClockTime.{ClockTime}
 use Rattle.values.specs.declared.clock_speed.ClockSpeed.the-variants.{TicksPerSecond, TicksPerMinute}
@@ -86,11 +86,11 @@ reads x e = record { computed = told ticks (tryFromFloatOf first (float x)); exp
 
 plus : ℕ → ℕ → ℕ → List ℕ → Row
 unfolding told float ticks first tryAddFloatOf laterOf earlierOf
-plus n f x e = record { computed = told ticks (tryAddFloatOf (record { clock = first; ticks = n; fraction = float f }) (float x)); expected = e }
+plus n f x e = record { computed = told ticks (tryAddFloatOf (timeAt first n (float f)) (float x)); expected = e }
 
 minus : ℕ → ℕ → ℕ → List ℕ → Row
 unfolding told float ticks first trySubFloatOf laterOf earlierOf
-minus n f x e = record { computed = told ticks (trySubFloatOf (record { clock = first; ticks = n; fraction = float f }) (float x)); expected = e }
+minus n f x e = record { computed = told ticks (trySubFloatOf (timeAt first n (float f)) (float x)); expected = e }
 
 perMinute : ℕ → List ℕ → Row
 unfolding told float bits tryTpsOf
@@ -201,5 +201,5 @@ rows =
 
 -- the one claim
 pub worked : T (all rows)
-unfolding all rows firstFault add sub mul div rem lt le eq toUnsigned ofInt nanosOf secondsOf applyOf tweenValueOf stepOf tweenedOf updateOf tryUpdateOf trySetOf speeds.updateOf speeds.tweenedOf freeOf livesIn findOf readAt roomFor takenOf tickOf updateClockOf addClockOf tickOnOf clockTimeOf runClockOf infoIn turnClock modulatorTurns modulatorsTurned clockTurns clocksTurned frameOf afterAll
+unfolding all rows numberOf firstFault add sub mul div rem lt le eq toUnsigned ofInt nanosOf secondsOf applyOf tweenValueOf stepOf tweenedOf updateOf tryUpdateOf trySetOf speeds.updateOf speeds.tweenedOf freeOf livesIn findOf readAt roomFor takenOf tickOf updateClockOf addClockOf tickOnOf clockTimeOf runClockOf infoIn turnClock modulatorTurns modulatorsTurned clockTurns clocksTurned frameOf afterAll
 worked = tt

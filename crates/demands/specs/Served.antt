@@ -9,6 +9,7 @@ use lib.Ieee.{Float}
 use Rattle.doubles.specs.Doubles.{finiteOf, signOf}
 use Rattle.judge.specs.Answer.{accepted}
 use Rattle.judge.specs.Judge.{badFraction}
+use Rattle.times.specs.Times.{timeAt}
 use Rattle.times.specs.declared.time.ClockId.{ClockId}
 use Rattle.times.specs.declared.time.ClockTime.{ClockTime}
 use Rattle.times.specs.declared.start_time.StartTime.the-variants.{At}
@@ -90,7 +91,7 @@ pub record Stands (st : Station) (id : ClockId) (n : ℕ) : Type 0 where
 
 -- what is awaited: tick and fraction of this clock
 abbrev pub awaited : ClockId → ℕ → Float → ClockTime
-awaited id tick g = record { clock = id; ticks = tick; fraction = g }
+awaited id tick g = timeAt id tick g
 
 -- of a parameter with the tween w, which waits at time 0
 module _ (k : Kind) (st : Station) (id : ClockId) (es : List Event) (tick : ℕ) (g : Float) where

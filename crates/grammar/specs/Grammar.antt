@@ -13,6 +13,7 @@ use Rattle.text.specs.declared.Number.{Number}
 use Rattle.text.specs.declared.Number.the-variants as number
 use Rattle.values.specs.declared.clock_speed.ClockSpeed.{ClockSpeed}
 use Rattle.values.specs.declared.clock_speed.ClockSpeed.the-variants.{SecondsPerTick, TicksPerSecond, TicksPerMinute}
+use Rattle.times.specs.Times as times
 use Rattle.times.specs.declared.start_time.StartTime.the-variants.{Immediate, Delayed, At}
 use Rattle.times.specs.declared.time.ClockId.{ClockId}
 use Rattle.times.specs.declared.time.ClockTime.{ClockTime}
@@ -229,7 +230,7 @@ unfoldable pub timeAt : List ℕ → ℕ → ClockId → TimeAt
 timeAt s at clock =
     withNumber time.No (numberAt s at) (λ ticks a.
     withFloat time.No (floatAt s a) (λ fraction to.
-    time.Is (record { clock = clock; ticks = ticks; fraction = fraction }) to))
+    time.Is (times.timeAt clock ticks fraction) to))
 
 -- "ID N F": a clock and a time of it
 unfoldable pub clockTimeAt : List ℕ → ℕ → TimeAt

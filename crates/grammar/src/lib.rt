@@ -8,6 +8,7 @@ use text::Word;
 use times::start_time::StartTime;
 use times::time::ClockId;
 use times::time::ClockTime;
+use times::time::time_at;
 use times::tween::Easing;
 use values::clock_speed::ClockSpeed;
 use values::value::FloatMapping;
@@ -237,14 +238,7 @@ pub fn time(line: &[u8], at: usize, clock: ClockId) -> TimeAt
     let FloatAt::Is(fraction, to) = float(line, behind) else {
         return TimeAt::No;
     };
-    TimeAt::Is(
-        ClockTime {
-            clock,
-            ticks,
-            fraction,
-        },
-        to,
-    )
+    TimeAt::Is(time_at(clock, ticks, fraction), to)
 }
 
 // A clock and a time of it: ID N F.

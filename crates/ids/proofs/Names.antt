@@ -12,10 +12,9 @@ use mathlib.Core.List.{List, [], _∷_}
 use lib.ListN.{length, set, replicate, length-set}
 use lib.Dec.{ltb, eqb}
 use borrow.Author.Tests.{ltb-false, eqb-true, eq-eqb, ne-eqb}
-use Rattle.ids.specs.Keys.{isFree, freeOf, livesIn, takenAt, leftAt, usedAt, generationAt, Closed, Spent, Numbered, Later, same, added, removed}
+use Rattle.ids.specs.Keys.{isFree, roomAt, noRoom, freeOf, livesIn, takenAt, leftAt, usedAt, generationAt, Closed, Spent, Numbered, Later, same, added, removed}
 use Rattle.ids.specs.Lists.{readAt}
 use Rattle.ids.specs.declared.Key.{Key}
-use Rattle.ids.specs.declared.Room.the-variants as room
 use Rattle.ids.proofs.Places.{read-set-same, read-set-other, read-replicate, lives-parts, lives-inside, Gives, gives, none-free}
 
 -- ---- a slot
@@ -70,7 +69,7 @@ module _ (ks : List Key) (i : ℕ) (k : Key) where
 
 -- ---- an add
 
-module _ (ks : List Key) (i g : ℕ) (e : freeOf 0 ks ≡ room.At i g) where
+module _ (ks : List Key) (i g : ℕ) (e : freeOf 0 ks ≡ roomAt i g) where
   own : Gives ks i g
   own = gives ks i g e
 
@@ -185,7 +184,7 @@ zero-dead ks n j = go (livesIn ks j 0) refl
 -- what each add and each removal keeps, any number of them keep
 module _ (P : List Key → Type 0) where
   kept :
-      {ks ls : List Key} → ((ms : List Key) (i g : ℕ) → freeOf 0 ms ≡ room.At i g → P ms → P (set ms i (takenAt g)))
+      {ks ls : List Key} → ((ms : List Key) (i g : ℕ) → freeOf 0 ms ≡ roomAt i g → P ms → P (set ms i (takenAt g)))
       → ((ms : List Key) (i g : ℕ) → livesIn ms i g ≡ true → P ms → P (set ms i (leftAt g))) → Later ks ls → P ks → P ls
   kept a r same p = p
   kept {ks} a r (added i g e m) p = kept a r m (a ks i g e p)
@@ -215,7 +214,7 @@ once-dead {ks} {ls} j h l m d after = later-spent after j h spent .dead
 
 -- two adds, whatever happened between, never give the same id
 pub two-adds :
-    (ks : List Key) {ls : List Key} (i g j h : ℕ) → freeOf 0 ks ≡ room.At i g → Later (set ks i (takenAt g)) ls → freeOf 0 ls ≡ room.At j h → j ≡ i → h ≡ g
+    (ks : List Key) {ls : List Key} (i g j h : ℕ) → freeOf 0 ks ≡ roomAt i g → Later (set ks i (takenAt g)) ls → freeOf 0 ls ≡ roomAt j h → j ≡ i → h ≡ g
     → ⊥
 two-adds ks {ls} i g j h e m f p q =
     let a : h ≡ generationAt ls j + 1 = add-raises ls j h f in
@@ -226,7 +225,7 @@ two-adds ks {ls} i g j h e m f p q =
 
 -- a slot whose generations are used up is never given again: RULES, retired-slot
 pub retired-stays :
-    {ks ls : List Key} (i j h : ℕ) → 4294967295 ≤ generationAt ks i → Later ks ls → freeOf 0 ls ≡ room.At j h → j ≡ i → ⊥
+    {ks ls : List Key} (i j h : ℕ) → 4294967295 ≤ generationAt ks i → Later ks ls → freeOf 0 ls ≡ roomAt j h → j ≡ i → ⊥
 retired-stays {ks} {ls} i j h r m f p =
     let b : generationAt ls j < 4294967295 = gives ls j h f .below in
     omega (arith, later-rises m i, rw p at b)
@@ -245,13 +244,13 @@ closed (k ∷ ks) zero h f = closed-key k f
 closed (k ∷ ks) (suc j) h f = closed ks j (le-of-suc-le-suc h) f
 
 -- every slot below the one that is given is taken or used up: RULES, lowest-free-slot
-pub lowest : (ks : List Key) (i g : ℕ) → freeOf 0 ks ≡ room.At i g → (j : ℕ) → j < i → Closed ks j
+pub lowest : (ks : List Key) (i g : ℕ) → freeOf 0 ks ≡ roomAt i g → (j : ℕ) → j < i → Closed ks j
 lowest ks i g e j h =
     let p : Gives ks i g = gives ks i g e in
     closed ks j (omega arith) (p .lowest j h)
 
 -- where none is given, every slot is taken or used up: RULES, no-room
-pub no-room : (ks : List Key) → freeOf 0 ks ≡ room.Nothing → (j : ℕ) → j < length ks → Closed ks j
+pub no-room : (ks : List Key) → freeOf 0 ks ≡ noRoom → (j : ℕ) → j < length ks → Closed ks j
 no-room ks e j h = closed ks j h (none-free ks 0 e j)
 
 -- a slot that is freed before its last generation can be given again: there is room, and no higher than the slot:
@@ -261,10 +260,10 @@ module _ (ks : List Key) (i g : ℕ) (l : livesIn ks i g ≡ true) (b : g < 4294
   open-again (inl u) = false≢true (sym (left ks i g l) ∙ u)
   open-again (inr r) = omega (arith, remove-generations ks i g l i, living ks i g l .agrees)
 
-  pub freed-room : freeOf 0 (set ks i (leftAt g)) ≡ room.Nothing → ⊥
+  pub freed-room : freeOf 0 (set ks i (leftAt g)) ≡ noRoom → ⊥
   freed-room e = open-again (no-room (set ks i (leftAt g)) e i (rw length-set (lives-inside ks i g l)))
 
-  pub freed-lowest : (j h : ℕ) → freeOf 0 (set ks i (leftAt g)) ≡ room.At j h → j ≤ i
+  pub freed-lowest : (j h : ℕ) → freeOf 0 (set ks i (leftAt g)) ≡ roomAt j h → j ≤ i
   freed-lowest j h e = go (decLe j i)
     where
       go : Dec (j ≤ i) → j ≤ i
@@ -272,6 +271,6 @@ module _ (ks : List Key) (i g : ℕ) (l : livesIn ks i g ≡ true) (b : g < 4294
       go (no n) = absurd (open-again (lowest (set ks i (leftAt g)) j h e i (omega arith)))
 
 -- a new table gives slot 0 and generation 1: RULES, generation
-pub first-one : (n : ℕ) → freeOf 0 (replicate (suc n) (leftAt 0)) ≡ room.At 0 1
+pub first-one : (n : ℕ) → freeOf 0 (replicate (suc n) (leftAt 0)) ≡ roomAt 0 1
 unfolding freeOf
 first-one n = refl

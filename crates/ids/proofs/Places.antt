@@ -9,11 +9,13 @@ use mathlib.Core.List.{List, [], _∷_}
 use lib.ListN.{length, getD, set, replicate}
 use lib.Dec.{ltb, eqb}
 use borrow.Author.Tests.{ltb-true}
-use Rattle.ids.specs.Keys.{isFree, freeOf, livesIn, findOf, usedAt, generationAt}
+use Rattle.judge.specs.Answer.{Answer, accepted, refused}
+use Rattle.judge.specs.Numbers.{«NO_ROOM», «NO_SUCH»}
+use Rattle.ids.specs.Keys.{isFree, Place, place, roomAt, noRoom, freeOf, livesIn, noSuch, findOf, foundAs, placeOf, placedAs, usedAt, generationAt}
 use Rattle.ids.specs.Lists.{readAt}
 use Rattle.ids.specs.declared.Key.{Key}
-use Rattle.ids.specs.declared.Room.the-variants as room
-use Rattle.ids.specs.declared.Found.the-variants as found
+use Rattle.ids.specs.declared.Found.{Found}
+use Rattle.ids.specs.declared.Placed.{Placed}
 
 -- ---- entries
 
@@ -69,11 +71,11 @@ pub record Finds (ks : List Key) (slot g i : ℕ) : Type 0 where
   pub same : i ≡ slot
   pub alive : livesIn ks slot g ≡ true
 
-finds-step : (ks : List Key) (slot g i : ℕ) (b : Bool) → livesIn ks slot g ≡ b → cond b (found.At slot) found.Nothing ≡ found.At i → Finds ks slot g i
+finds-step : (ks : List Key) (slot g i : ℕ) (b : Bool) → livesIn ks slot g ≡ b → cond b (accepted slot) noSuch ≡ accepted i → Finds ks slot g i
 finds-step ks slot g i true l e = record { same = cc; alive = l }
 finds-step ks slot g i false l e = let n : _≡_ {A = ℕ} 0 1 = cc in absurd (omega arith)
 
-module _ (ks : List Key) (slot g i : ℕ) (e : findOf ks slot g ≡ found.At i) where
+module _ (ks : List Key) (slot g i : ℕ) (e : findOf ks slot g ≡ accepted i) where
   pub finds : Finds ks slot g i
   unfolding findOf
   finds = finds-step ks slot g i (livesIn ks slot g) refl e
@@ -133,8 +135,8 @@ module _ (k : Key) (ks : List Key) where
       go (suc j) h = p .lowest j (le-of-suc-le-suc h)
 
 gives-step :
-    (k : Key) (ks : List Key) (n i g : ℕ) (b : Bool) → isFree k ≡ b → cond b (room.At n (k .generation + 1)) (freeOf (n + 1) ks) ≡ room.At i g
-    → (freeOf (n + 1) ks ≡ room.At i g → GivesFrom ks (n + 1) i g) → GivesFrom (k ∷ ks) n i g
+    (k : Key) (ks : List Key) (n i g : ℕ) (b : Bool) → isFree k ≡ b → cond b (roomAt n (k .generation + 1)) (freeOf (n + 1) ks) ≡ roomAt i g
+    → (freeOf (n + 1) ks ≡ roomAt i g → GivesFrom ks (n + 1) i g) → GivesFrom (k ∷ ks) n i g
 gives-step k ks n i g true f e ih =
     let p : n ≡ i = cc in
     let q : k .generation + 1 ≡ g = cc in
@@ -143,12 +145,12 @@ gives-step k ks n i g false f e ih =
     let p : GivesFrom ks (n + 1) i g = ih e in
     record { place = suc (p .place); at = omega arith; gives = gives-later k ks (p .place) g f (p .gives) }
 
-gives-from : (ks : List Key) (n i g : ℕ) → freeOf n ks ≡ room.At i g → GivesFrom ks n i g
+gives-from : (ks : List Key) (n i g : ℕ) → freeOf n ks ≡ roomAt i g → GivesFrom ks n i g
 unfolding freeOf
 gives-from [] n i g e = let z : _≡_ {A = ℕ} 0 1 = cc in absurd (omega arith)
 gives-from (k ∷ ks) n i g e = gives-step k ks n i g (isFree k) refl e (gives-from ks (n + 1) i g)
 
-module _ (ks : List Key) (i g : ℕ) (e : freeOf 0 ks ≡ room.At i g) where
+module _ (ks : List Key) (i g : ℕ) (e : freeOf 0 ks ≡ roomAt i g) where
   pub gives : Gives ks i g
   gives =
       let p : GivesFrom ks 0 i g = gives-from ks 0 i g e in
@@ -159,23 +161,74 @@ module _ (ks : List Key) (i g : ℕ) (e : freeOf 0 ks ≡ room.At i g) where
   room-inside = gives .inside
 
 none-step :
-    (k : Key) (ks : List Key) (n : ℕ) (b : Bool) → isFree k ≡ b → cond b (room.At n (k .generation + 1)) (freeOf (n + 1) ks) ≡ room.Nothing
-    → (isFree k ≡ false) × (freeOf (n + 1) ks ≡ room.Nothing)
+    (k : Key) (ks : List Key) (n : ℕ) (b : Bool) → isFree k ≡ b → cond b (roomAt n (k .generation + 1)) (freeOf (n + 1) ks) ≡ noRoom
+    → (isFree k ≡ false) × (freeOf (n + 1) ks ≡ noRoom)
 none-step k ks n true f e = let z : _≡_ {A = ℕ} 0 1 = cc in absurd (omega arith)
 none-step k ks n false f e = (f, e)
 
 -- where a search gives nothing, no slot is free
-pub none-free : (ks : List Key) (n : ℕ) → freeOf n ks ≡ room.Nothing → (j : ℕ) → readAt false isFree ks j ≡ false
+pub none-free : (ks : List Key) (n : ℕ) → freeOf n ks ≡ noRoom → (j : ℕ) → readAt false isFree ks j ≡ false
 unfolding freeOf readAt
 none-free [] n e j = refl
 none-free (k ∷ ks) n e zero = none-step k ks n (isFree k) refl e .0
 none-free (k ∷ ks) n e (suc j) = none-free ks (n + 1) (none-step k ks n (isFree k) refl e .1) j
 
--- a slot that is found by 16 keys is one of the 16 entries beside them
-module _ (ks : List Key) (slot g i : ℕ) (n : length ks ≡ 16) (e : findOf ks slot g ≡ found.At i) where
-  pub found-below : i < 16
-  found-below = omega (arith, found-inside _ _ _ _ e)
+-- a refused search has the one number
+refused-step :
+    (k : Key) (ks : List Key) (i n : ℕ) (b : Bool) → (freeOf (i + 1) ks ≡ refused n → n ≡ «NO_ROOM»)
+    → cond b (roomAt i (k .generation + 1)) (freeOf (i + 1) ks) ≡ refused n → n ≡ «NO_ROOM»
+refused-step k ks i n true ih e = let z : _≡_ {A = ℕ} 0 1 = cc in absurd (omega arith)
+refused-step k ks i n false ih e = ih e
 
-  -- what the code reads beside the keys is what stands in the slot
-  pub found-read : {A B : Type 0} (none : B) (f : A → B) (l : List A) (d : A) → length l ≡ 16 → f (getD l i d) ≡ readAt none f l i
-  found-read none f l d m = sym (read-at none f l i d (omega (arith, found-below)))
+pub room-number : (ks : List Key) (i n : ℕ) → freeOf i ks ≡ refused n → n ≡ «NO_ROOM»
+unfolding freeOf
+room-number [] i n e = cc
+room-number (k ∷ ks) i n e = refused-step k ks i n (isFree k) (room-number ks (i + 1) n) e
+
+-- ---- what `find` answers
+
+-- the id lives, in the slot that was answered
+pub record Living (ks : List Key) (slot g : ℕ) (r : Found) : Type 0 where
+  pub is : findOf ks slot g ≡ accepted slot
+  pub here : r .slot ≡ slot
+  pub inside : slot < 16
+
+-- r is what `find` gave
+module _ (ks : List Key) (slot g : ℕ) (n : length ks ≡ 16) {r : Found} (e : r ≡ foundAs (findOf ks slot g)) where
+  -- the slot is one of the 16, whether the id lives or not
+  pub some-slot : r .slot < 16
+  unfolding findOf
+  some-slot = go (livesIn ks slot g) (lives-inside ks slot g) e
+    where
+      go : (b : Bool) → (b ≡ true → slot < length ks) → r ≡ foundAs (cond b (accepted slot) noSuch) → r .slot < 16
+      go true h e = rw e (omega (arith, h refl))
+      go false h e = rw e (omega arith)
+
+  pub living : r .refused ≡ 0 → Living ks slot g r
+  unfolding findOf
+  living z = go (livesIn ks slot g) refl (lives-inside ks slot g) e
+    where
+      go : (b : Bool) → livesIn ks slot g ≡ b → (b ≡ true → slot < length ks) → r ≡ foundAs (cond b (accepted slot) noSuch) → Living ks slot g r
+      go true l h e = record { is = rw l; here = rw e; inside = omega (arith, h refl) }
+      go false l h e = let y : «NO_SUCH» ≡ 0 = rw e at z in absurd (omega arith)
+
+  pub missing : (r .refused ≡ 0 → ⊥) → findOf ks slot g ≡ refused (r .refused)
+  unfolding findOf
+  missing z = go (livesIn ks slot g) refl e
+    where
+      go : (b : Bool) → livesIn ks slot g ≡ b → r ≡ foundAs (cond b (accepted slot) noSuch) → findOf ks slot g ≡ refused (r .refused)
+      go true l e = absurd (z (rw e))
+      go false l e = rw (l, e)
+
+  -- what the code reads beside the keys is what stands in the id's slot
+  pub living-read : r .refused ≡ 0 → {A B : Type 0} (none : B) (f : A → B) (l : List A) (d : A) → length l ≡ 16 → f (getD l (r .slot) d) ≡ readAt none f l slot
+  living-read z none f l d m = let v : Living ks slot g r = living z in rw (v .here) (sym (read-at none f l slot d (omega (arith, v .inside))))
+
+-- the slot that an add stores into is one of the 16, whether there is room or not
+pub placed-below : (ks : List Key) (n : ℕ) {p : Placed} → length ks ≡ 16 → p ≡ placedAs ks (placeOf n ks) → p .slot < 16
+placed-below ks n {p} m e = go (eqb n 0) (freeOf 0 ks) refl e
+  where
+    go : (b : Bool) (w : Answer Place) → freeOf 0 ks ≡ w → p ≡ placedAs ks (cond b w (refused n)) → p .slot < 16
+    go true (accepted (place i g)) f e = rw e (omega (arith, room-inside ks i g f, m))
+    go true (refused j) f e = rw e (omega arith)
+    go false w f e = rw e (omega arith)

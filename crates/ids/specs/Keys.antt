@@ -5,24 +5,42 @@ use mathlib.Core.Bool.{Bool, true, false, not, _&&_, cond}
 use mathlib.Core.Path.{_≡_}
 use mathlib.Core.Logic.{_⊎_}
 use mathlib.Core.List.{List, [], _∷_}
-use lib.ListN.{set}
+use lib.ListN.{getD, set}
 use lib.Dec.{ltb, eqb}
+use Rattle.judge.specs.Answer.{Answer, accepted, refused}
+use Rattle.judge.specs.Judge.{decided}
+use Rattle.judge.specs.Numbers.{«NO_SUCH», «NO_ROOM»}
 use Rattle.ids.specs.Lists.{readAt}
 use Rattle.ids.specs.declared.Key.{Key}
 use Rattle.ids.specs.declared.Room.{Room}
 use Rattle.ids.specs.declared.Room.the-variants as room
 use Rattle.ids.specs.declared.Found.{Found}
-use Rattle.ids.specs.declared.Found.the-variants as found
+use Rattle.ids.specs.declared.Placed.{Placed}
 
 -- neither in use nor used up: RULES, retired-slot
 abbrev pub isFree : Key → Bool
 isFree k = not (k .used) && ltb (k .generation) 4294967295
 
+-- a slot, and the generation to give it
+pub data Place : Type 0 where
+  place : ℕ → ℕ → Place
+
+abbrev pub roomAt : ℕ → ℕ → Answer Place
+roomAt i g = accepted (place i g)
+
+-- there is none: RULES, no-room
+abbrev pub noRoom : Answer Place
+noRoom = refused «NO_ROOM»
+
+abbrev pub toldRoom : Room → Answer Place
+toldRoom (room.At i g) = roomAt i g
+toldRoom (room.Refused n) = refused n
+
 -- the slot that an add takes and the generation that it gives, of keys whose first has the number i:
 -- RULES, lowest-free-slot and generation
-unfoldable pub freeOf : ℕ → List Key → Room
-freeOf i [] = room.Nothing
-freeOf i (k ∷ ks) = cond (isFree k) (room.At i (k .generation + 1)) (freeOf (i + 1) ks)
+unfoldable pub freeOf : ℕ → List Key → Answer Place
+freeOf i [] = noRoom
+freeOf i (k ∷ ks) = cond (isFree k) (roomAt i (k .generation + 1)) (freeOf (i + 1) ks)
 
 -- the slot is in use, at the id's own generation: RULES, living-id
 unfoldable pub livesIn : List Key → ℕ → ℕ → Bool
@@ -30,9 +48,18 @@ livesIn [] i g = false
 livesIn (k ∷ ks) zero g = k .used && eqb (k .generation) g
 livesIn (k ∷ ks) (suc i) g = livesIn ks i g
 
--- where an id lives: RULES, id
-unfoldable pub findOf : List Key → ℕ → ℕ → Found
-findOf ks slot g = cond (livesIn ks slot g) (found.At slot) found.Nothing
+-- under the id nothing lives: RULES, no-such
+abbrev pub noSuch : Answer ℕ
+noSuch = refused «NO_SUCH»
+
+-- where an id lives, or the number that a call on it is given: RULES, id
+unfoldable pub findOf : List Key → ℕ → ℕ → Answer ℕ
+findOf ks slot g = cond (livesIn ks slot g) (accepted slot) noSuch
+
+-- a lookup's answer with a slot in each case: the first one where the id lives in none
+abbrev pub foundAs : Answer ℕ → Found
+foundAs (accepted i) = record { refused = 0; slot = i }
+foundAs (refused n) = record { refused = n; slot = 0 }
 
 -- a key as an accepted add leaves it
 abbrev pub takenAt : ℕ → Key
@@ -41,6 +68,19 @@ takenAt g = record { used = true; generation = g }
 -- and as a removal leaves it: RULES, removal
 abbrev pub leftAt : ℕ → Key
 leftAt g = record { used = false; generation = g }
+
+-- an add whose arguments have the number n; the search for a slot comes behind them: RULES, order
+abbrev pub placeOf : ℕ → List Key → Answer Place
+placeOf n ks = decided n (freeOf 0 ks) refused
+
+-- its place, with a slot and a key in each case: the first slot's, as it is, where there is none
+abbrev pub placedAs : List Key → Answer Place → Placed
+placedAs ks (accepted (place i g)) = record { refused = 0; slot = i; key = takenAt g }
+placedAs ks (refused n) = record { refused = n; slot = 0; key = getD ks 0 (leftAt 0) }
+
+-- a key after a removal with the number n
+abbrev pub leftOf : ℕ → Key → ℕ → Key
+leftOf n k g = decided n (leftAt g) (λ _. k)
 
 -- whether a slot is in use; none past the table's end is
 abbrev pub usedAt : List Key → ℕ → Bool
@@ -68,5 +108,5 @@ pub record Numbered (ks : List Key) : Type 0 where
 -- the second keys are what adds and removals, in any number and order, make of the first
 pub data Later : List Key → List Key → Type 0 where
   same : {ks : List Key} → Later ks ks
-  added : {ks ls : List Key} (i g : ℕ) → freeOf 0 ks ≡ room.At i g → Later (set ks i (takenAt g)) ls → Later ks ls
+  added : {ks ls : List Key} (i g : ℕ) → freeOf 0 ks ≡ roomAt i g → Later (set ks i (takenAt g)) ls → Later ks ls
   removed : {ks ls : List Key} (i g : ℕ) → livesIn ks i g ≡ true → Later (set ks i (leftAt g)) ls → Later ks ls

@@ -2,11 +2,10 @@
 // table and modulators have one, so that the search for a slot and the lookup of an id stand once.
 
 ghost use mathlib.Core.Path.{_≡_};
-ghost use Rattle.ids.specs.Keys.{freeOf, findOf};
-
-pub const NO_SUCH: u32 = 7;
-
-pub const NO_ROOM: u32 = 8;
+ghost use Rattle.judge.specs.Answer.{refused, numberTold};
+ghost use Rattle.ids.specs.Keys.{toldRoom, freeOf, foundAs, findOf, placedAs, placeOf, leftOf};
+use judge::NO_ROOM;
+use judge::NO_SUCH;
 
 // The last generation. A slot that is freed at it is retired.
 const LAST: u32 = 4294967295;
@@ -17,21 +16,29 @@ pub struct Key {
     pub generation: u32,
 }
 
-// The slot to take, and the generation to give it.
+// The slot to take and the generation to give it, or the number that an add is refused with.
 pub enum Room {
     At(usize, u32),
-    Nothing,
+    Refused(u32),
 }
 
-// The slot where an id lives.
-pub enum Found {
-    At(usize),
-    Nothing,
+// The slot where an id lives, and 0; or slot 0, and the number that a call on the id is refused with. So there is
+// always a slot to read, and what was read can be stored back.
+pub struct Found {
+    pub refused: u32,
+    pub slot: usize,
+}
+
+// Where an add goes: the slot, its key then, and 0; or slot 0, its key as it is, and the number of the refusal.
+pub struct Placed {
+    pub refused: u32,
+    pub slot: usize,
+    pub key: Key,
 }
 
 // The lowest slot that is neither occupied nor retired.
 pub fn free(keys: [Key; 16]) -> Room
-    ensures { λ r. ⌜ r ≡ freeOf 0 keys ⌝ }
+    ensures { λ r. ⌜ toldRoom r ≡ freeOf 0 keys ⌝ }
 {
     let mut i: usize = 0;
     while i < 16 {
@@ -43,20 +50,82 @@ pub fn free(keys: [Key; 16]) -> Room
         }
         i += 1;
     }
-    Room::Nothing
+    Room::Refused(NO_ROOM)
 }
 
 pub fn find(keys: [Key; 16], slot: u32, generation: u32) -> Found
-    ensures { λ r. ⌜ r ≡ findOf keys slot generation ⌝ }
+    ensures { λ r. ⌜ r ≡ foundAs (findOf keys slot generation) ⌝ }
 {
     let i = slot as usize;
     if i < 16 {
         let k = keys[i];
         if k.used {
             if k.generation == generation {
-                return Found::At(i);
+                return Found {
+                    refused: 0,
+                    slot: i,
+                };
             }
         }
     }
-    Found::Nothing
+    Found {
+        refused: NO_SUCH,
+        slot: 0,
+    }
+}
+
+// The number that a search answers with, 0 where it found a slot.
+fn refusal(r: Room) -> u32
+    ensures { λ n. ⌜ n ≡ numberTold (toldRoom r) ⌝ }
+{
+    match r {
+        Room::At(_, _) => 0,
+        Room::Refused(n) => n,
+    }
+}
+
+// No place, by the number n.
+fn unplaced(keys: [Key; 16], n: u32) -> Placed
+    ensures { λ r. ⌜ r ≡ placedAs keys (refused n) ⌝ }
+{
+    let key = keys[0];
+    Placed {
+        refused: n,
+        slot: 0,
+        key,
+    }
+}
+
+// Where an add goes whose arguments have the number n: a number behind the arguments' is asked after them.
+pub fn place(keys: [Key; 16], n: u32) -> Placed
+    ensures { λ r. ⌜ r ≡ placedAs keys (placeOf n keys) ⌝ }
+{
+    if n != 0 {
+        return unplaced(keys, n);
+    }
+    let room = free(keys);
+    let Room::At(slot, generation) = room else {
+        return unplaced(keys, refusal(room));
+    };
+    Placed {
+        refused: 0,
+        slot,
+        key: Key {
+            used: true,
+            generation,
+        },
+    }
+}
+
+// The key of a slot after a removal with the number n, of a generation.
+pub fn left(n: u32, key: Key, generation: u32) -> Key
+    ensures { λ r. ⌜ r ≡ leftOf n key generation ⌝ }
+{
+    if n != 0 {
+        return key;
+    }
+    Key {
+        used: false,
+        generation,
+    }
 }

@@ -1,15 +1,14 @@
 -- Document 01, "info.rs, part": what is seen of clocks and modulators, and what is asked of it. Assumes nothing.
+use Prim.Native.Nat.{ℕ}
 use mathlib.Core.Bool.{Bool, true, false, _&&_, cond}
 use mathlib.Core.List.{List}
 use lib.Ieee.{Float}
 use Rattle.ids.specs.Keys.{findOf}
 use Rattle.ids.specs.Lists.{readAt}
-use Rattle.ids.specs.declared.Found.{Found}
-use Rattle.ids.specs.declared.Found.the-variants as found
 use Rattle.judge.specs.Answer.{Answer, accepted, refused}
-use Rattle.judge.specs.Judge.{fractionFaults, judged}
+use Rattle.judge.specs.Judge.{judged}
 use Rattle.times.specs.Starts.{tryUpdateOf}
-use Rattle.times.specs.Times.{orderOf}
+use Rattle.times.specs.Times.{timeAt, clockTimeFaults, orderOf}
 use Rattle.times.specs.declared.time.ClockTime.{ClockTime}
 use Rattle.times.specs.declared.time.Order.{Order}
 use Rattle.times.specs.declared.time.Order.the-variants.{Less, Equal, Greater, Unordered}
@@ -47,16 +46,16 @@ atOrPast Greater = true
 atOrPast Unordered = false
 
 abbrev pub reachedOf : ClockInfo → ClockTime → Bool
-reachedOf c t = atOrPast (orderOf (record { clock = t .clock; ticks = c .ticks; fraction = c .fraction }) t)
+reachedOf c t = atOrPast (orderOf (timeAt (t .clock) (c .ticks) (c .fraction)) t)
 
 -- of a clock that lives, now where it ticks and has come there, else later: RULES, now and later
 abbrev pub dueOf : ClockInfo → ClockTime → When
 dueOf c t = cond (c .ticking && reachedOf c t) Now Later
 
 -- never where no clock lives under that id: RULES, never
-abbrev pub whenFound : List ClockInfo → Found → ClockTime → When
-whenFound cs found.Nothing t = Never
-whenFound cs (found.At i) t = readAt Never (λ c. dueOf c t) cs i
+abbrev pub whenFound : List ClockInfo → Answer ℕ → ClockTime → When
+whenFound cs (refused n) t = Never
+whenFound cs (accepted i) t = readAt Never (λ c. dueOf c t) cs i
 
 unfoldable pub whenToStartOf : Info → ClockTime → When
 whenToStartOf info t = whenFound (info .clocks) (findOf (info .«clock_keys») (t .clock .slot) (t .clock .generation)) t
@@ -64,9 +63,9 @@ whenToStartOf info t = whenFound (info .clocks) (findOf (info .«clock_keys») (
 -- ---- modulators
 
 -- nothing where no modulator lives under that id: RULES, seen-modulator
-abbrev pub valueFound : List Float → Found → Input
-valueFound xs found.Nothing = input.None
-valueFound xs (found.At i) = readAt input.None (λ x. input.Is x) xs i
+abbrev pub valueFound : List Float → Answer ℕ → Input
+valueFound xs (refused n) = input.None
+valueFound xs (accepted i) = readAt input.None (λ x. input.Is x) xs i
 
 unfoldable pub modulatorValueOf : Info → ModulatorId → Input
 modulatorValueOf info id = valueFound (info .values) (findOf (info .«modulator_keys») (id .slot) (id .generation))
@@ -89,7 +88,7 @@ speedInputOf info (speed.FromModulator id m) = modulatorValueOf info id
 -- ---- the calls; an id inside what is asked about may name nothing: RULES, free-ids
 
 unfoldable pub tryWhenToStartOf : Info → ClockTime → Answer When
-tryWhenToStartOf info t = judged (fractionFaults (t .fraction)) (accepted (whenToStartOf info t))
+tryWhenToStartOf info t = judged (clockTimeFaults t) (accepted (whenToStartOf info t))
 
 abbrev pub toldWhen : Whened → Answer When
 toldWhen (whened.Is w) = accepted w

@@ -3,18 +3,18 @@ ghost use mathlib.Core.Path.{_≡_};
 ghost use Rattle.times.specs.Starts.{toldStart};
 ghost use Rattle.info.specs.Infos.{reachedOf, dueOf, whenToStartOf, modulatorValueOf, startDueOf, floatInputOf, speedInputOf, tryWhenToStartOf, toldWhen, tryUpdateStartIn, tryRawFloatIn, tryRawSpeedIn, toldRawFloat, toldRawSpeed};
 use clock::ClockInfo;
-use ids::Found;
 use ids::Key;
 use ids::find;
 use judge::first_fault;
-use judge::fraction_faults;
 use times::start_time::StartTime;
 use times::start_time::StartUp;
 use times::start_time::When;
 use times::start_time::try_update;
 use times::time::ClockTime;
 use times::time::Order;
+use times::time::clock_time_faults;
 use times::time::partial_cmp;
+use times::time::time_at;
 use values::value::FloatValue;
 use values::value::Input;
 use values::value::ModulatorId;
@@ -54,12 +54,7 @@ fn reached(c: ClockInfo, t: ClockTime) -> bool
     ensures { λ r. ⌜ r ≡ reachedOf c t ⌝ }
 {
     let clock = t.clock;
-    let present = ClockTime {
-        clock,
-        ticks: c.ticks,
-        fraction: c.fraction,
-    };
-    match partial_cmp(present, t) {
+    match partial_cmp(time_at(clock, c.ticks, c.fraction), t) {
         Order::Less => false,
         Order::Equal => true,
         Order::Greater => true,
@@ -86,9 +81,11 @@ pub fn when_to_start(info: Info, t: ClockTime) -> When
 {
     let keys = info.clock_keys;
     let id = t.clock;
-    let Found::At(i) = find(keys, id.slot, id.generation) else {
+    let found = find(keys, id.slot, id.generation);
+    if found.refused != 0 {
         return When::Never;
-    };
+    }
+    let i = found.slot;
     let clocks = info.clocks;
     let c = clocks[i];
     due(c, t)
@@ -98,9 +95,11 @@ pub fn modulator_value(info: Info, id: ModulatorId) -> Input
     ensures { λ r. ⌜ r ≡ modulatorValueOf info id ⌝ }
 {
     let keys = info.modulator_keys;
-    let Found::At(i) = find(keys, id.slot, id.generation) else {
+    let found = find(keys, id.slot, id.generation);
+    if found.refused != 0 {
         return Input::None;
-    };
+    }
+    let i = found.slot;
     let values = info.values;
     Input::Is(values[i])
 }
@@ -138,7 +137,7 @@ pub fn speed_input(info: Info, v: SpeedValue) -> Input
 pub fn try_when_to_start(info: Info, t: ClockTime) -> Whened
     ensures { λ r. ⌜ toldWhen r ≡ tryWhenToStartOf info t ⌝ }
 {
-    let n = first_fault(fraction_faults(t.fraction));
+    let n = first_fault(clock_time_faults(t));
     if n != 0 {
         return Whened::Refused(n);
     }

@@ -7,9 +7,8 @@ use mathlib.Core.List.{List}
 use lib.Seq.{getD-set-other}
 use lib.Dec.{eqb}
 use borrow.Author.Tests.{eqb-true}
-use Rattle.ids.specs.Keys.{freeOf, livesIn, usedAt, generationAt}
+use Rattle.ids.specs.Keys.{roomAt, freeOf, livesIn, usedAt, generationAt}
 use Rattle.ids.specs.declared.Key.{Key}
-use Rattle.ids.specs.declared.Room.the-variants as room
 use Rattle.ids.proofs.Names as names
 use Rattle.ids.proofs.Places.{lives-parts, gives}
 use Rattle.station.specs.declared.Station.{Station}
@@ -31,7 +30,7 @@ module _ (ks : List Key) (j h : ℕ) (l : livesIn ks j h ≡ true) where
   slots-apart i g m n p = n p (sym (lives-there ks j h l .1) ∙ (rw (sym p) at (lives-there ks i g m .1)))
 
   -- an add takes no slot in which an id lives
-  slot-taken : (i g : ℕ) → freeOf 0 ks ≡ room.At i g → j ≡ i → ⊥
+  slot-taken : (i g : ℕ) → freeOf 0 ks ≡ roomAt i g → j ≡ i → ⊥
   slot-taken i g e p = false≢true (sym (gives ks i g e .empty) ∙ (rw p at (lives-there ks j h l .0)))
 
 -- ---- entries

@@ -8,10 +8,11 @@ use mathlib.Core.Bool.{true, false}
 use mathlib.Core.List.{List, [], _∷_}
 use lib.ListN.{set}
 use lib.Ieee.{Float}
-use Rattle.ids.specs.Keys.{freeOf, takenAt, Spent, Numbered, Later, same, added, removed}
+use Rattle.ids.specs.Keys.{roomAt, freeOf, takenAt, Spent, Numbered, Later, same, added, removed}
 use Rattle.ids.specs.Tables.{freed, onFound, refusedCall}
 use Rattle.ids.specs.declared.Key.{Key}
-use Rattle.ids.specs.declared.Room.the-variants as room
+use Rattle.judge.specs.Answer.{numberTold}
+use Rattle.judge.specs.Numbers.{«NO_SUCH»}
 use Rattle.ids.proofs.Names as names
 use Rattle.times.specs.declared.time.ClockId.{ClockId}
 use Rattle.values.specs.declared.value.ModulatorId.{ModulatorId}
@@ -27,7 +28,7 @@ use Rattle.commands.specs.declared.clock_command.ClockCommand.the-variants as c
 use Rattle.commands.specs.declared.modulator_command.ModulatorCommand.the-variants as modulatorCommand
 use Rattle.station.specs.Stations.{freshStation}
 use Rattle.station.specs.declared.Station.{Station}
-use Rattle.laws.specs.Calls.{Call, clock, modulator, frame, after, afterAll, Kind, ofClock, ofModulator, keysOf, lives, Told, named, clockTold, modulatorTold, told, numberIn, numberOf, Target, all}
+use Rattle.laws.specs.Calls.{Call, clock, modulator, frame, after, afterAll, Kind, ofClock, ofModulator, keysOf, lives, Told, named, told, callNumber, Target, all}
 use Rattle.laws.proofs.lemmas.Deeds.{Deed, leaves, changes, removes, adds, turns, deed, found-case, read-case}
 
 -- ---- one call
@@ -39,7 +40,7 @@ joined (removed i g e l) m = removed i g e (joined l m)
 
 -- what an answer with an id says of the keys: they had room there, and the id is in them
 record Took (ks ls : List Key) (i g : ℕ) : Type 0 where
-  room : freeOf 0 ks ≡ room.At i g
+  room : freeOf 0 ks ≡ roomAt i g
   keys : ls ≡ set ks i (takenAt g)
 
 module _ {A : Type 0} {k : Kind} {ks : List Key} {es : List A} where
@@ -87,34 +88,34 @@ module _ (k : Kind) (st : Station) where
 -- an accepted removal ends its id
 module _ (st : Station) where
   pub clock-removed :
-      (id : ClockId) → numberOf st (clock (clockCommand.Remove id)) ≡ 0 → Spent (keysOf ofClock (after st (clock (clockCommand.Remove id)))) (id .slot) (id .generation)
+      (id : ClockId) → callNumber st (clock (clockCommand.Remove id)) ≡ 0 → Spent (keysOf ofClock (after st (clock (clockCommand.Remove id)))) (id .slot) (id .generation)
   unfolding runClockOf clocks.removeOf
   clock-removed id =
       found-case (λ w. Ended (onFound clocks.clockTable (st .clocks) w (λ i c. freed clocks.clockTable (st .clocks) i (id .generation)))) (st .clocks .keys) (id .slot) (id .generation) refused (λ l.
-      read-case Ended (refusedCall clocks.clockTable (st .clocks) 7) (λ c. freed clocks.clockTable (st .clocks) (id .slot) (id .generation)) refused (λ c z.
+      read-case Ended (refusedCall clocks.clockTable (st .clocks) «NO_SUCH») (λ c. freed clocks.clockTable (st .clocks) (id .slot) (id .generation)) refused (λ c z.
       names.remove-own-spent (st .clocks .keys) (id .slot) (id .generation) l)
       (st .clocks .clocks) (id .slot))
     where
       Ended : ClockDone → Type 0
-      Ended r = numberIn (clockTold (clockRuns.doneAs r .answer)) ≡ 0 → Spent (r .table .keys) (id .slot) (id .generation)
+      Ended r = numberTold (clockRuns.doneAs r .answer) ≡ 0 → Spent (r .table .keys) (id .slot) (id .generation)
 
-      refused : Ended (refusedCall clocks.clockTable (st .clocks) 7)
+      refused : Ended (refusedCall clocks.clockTable (st .clocks) «NO_SUCH»)
       refused z = absurd (omega arith)
 
   pub modulator-removed :
-      (id : ModulatorId) → numberOf st (modulator (modulatorCommand.Remove id)) ≡ 0
+      (id : ModulatorId) → callNumber st (modulator (modulatorCommand.Remove id)) ≡ 0
       → Spent (keysOf ofModulator (after st (modulator (modulatorCommand.Remove id)))) (id .slot) (id .generation)
   unfolding runModulatorOf modulators.removeOf
   modulator-removed id =
       found-case (λ w. Ended (modulators.onModulator (st .modulators) w (λ i m. freed modulators.modulatorTable (st .modulators) i (id .generation)))) (st .modulators .keys) (id .slot) (id .generation) refused (λ l.
-      read-case Ended (refusedCall modulators.modulatorTable (st .modulators) 7) (λ s. freed modulators.modulatorTable (st .modulators) (id .slot) (id .generation)) refused (λ s z.
+      read-case Ended (refusedCall modulators.modulatorTable (st .modulators) «NO_SUCH») (λ s. freed modulators.modulatorTable (st .modulators) (id .slot) (id .generation)) refused (λ s z.
       names.remove-own-spent (st .modulators .keys) (id .slot) (id .generation) l)
       (st .modulators .slots) (id .slot))
     where
       Ended : ModulatorDone → Type 0
-      Ended r = numberIn (modulatorTold (modulatorRuns.doneAs r .answer)) ≡ 0 → Spent (r .table .keys) (id .slot) (id .generation)
+      Ended r = numberTold (modulatorRuns.doneAs r .answer) ≡ 0 → Spent (r .table .keys) (id .slot) (id .generation)
 
-      refused : Ended (refusedCall modulators.modulatorTable (st .modulators) 7)
+      refused : Ended (refusedCall modulators.modulatorTable (st .modulators) «NO_SUCH»)
       refused z = absurd (omega arith)
 
 -- ---- a run

@@ -35,8 +35,8 @@ use Rattle.info.specs.ParametersIn.{floatDueOf, floatSourceIn, floatSourceOf, t
 use Rattle.info.specs.declared.info.Info.{Info}
 use Rattle.clock.specs.OneClock.{newClock, positionOf}
 use Rattle.clock.specs.declared.Clock.{Clock}
-use Rattle.clock.specs.declared.Moved.{Moved}
-use Rattle.clock.specs.declared.Moved.the-variants.{Is, Refused}
+use Rattle.judge.specs.Answer.{Answer, accepted, refused}
+use Rattle.clock.specs.declared.Ticked.{Ticked}
 use Rattle.clock.specs.declared.Reported.{Reported}
 use Rattle.modulator.specs.Tweeners.{newTweener}
 use Rattle.modulator_table.specs.ModulatorTables.{valueOf, slotValue, slotOf}
@@ -148,9 +148,9 @@ module _ (dt : Float) (h : dtFaults dt ≡ noFaults) where
           turn : Clock → Try
           turn c = placed i cs rs (turnClock (watching info cs) c dt)
 
-          put : (m : Moved) → SoundMoved m → SoundTry (placed i cs rs m)
-          put (Is t) q = all-set SoundClock cs i (t .clock) q k
-          put (Refused n) q = tt
+          put : (m : Answer Ticked) → SoundMoved m → SoundTry (placed i cs rs m)
+          put (accepted t) q = all-set SoundClock cs i (t .clock) q k
+          put (refused n) q = tt
 
           turn-kept : (c : Clock) → SoundClock c → SoundTry (turn c)
           turn-kept c q = put (turnClock (watching info cs) c dt) (clock-turned (watching info cs) v c q)

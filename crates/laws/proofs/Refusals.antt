@@ -1,14 +1,21 @@
 -- A refused call leaves what it was given as it was: of each call on a station, and of each change and advance of a
--- parameter. 01, "Refusal numbers"; RULES, refusal. Assumes nothing.
+-- parameter; and its number is not 0. 01, "Refusal numbers"; RULES, refusal and ok. Assumes nothing.
 use Prim.Native.Nat.{ℕ}
 use native.Mathlib.Omega.{arith}
-use mathlib.Core.Path.{_≡_, refl}
+use mathlib.Core.Path.{_≡_, refl, subst}
 use mathlib.Core.Bool.{Bool, true, false, cond}
 use mathlib.Core.List.{List}
 use lib.Dec.{eqb}
+use borrow.Author.Tests.{eqb-false}
 use lib.Ieee.{Float}
+use Rattle.ids.specs.Keys.{Place, place, freeOf}
+use Rattle.ids.specs.Tables.{Table, readFound, whereIs, refusedAdd, placedIn, addedTo}
 use Rattle.ids.specs.declared.Key.{Key}
-use Rattle.judge.specs.Judge.{dtFaults, firstFault}
+use Rattle.ids.proofs.Places.{room-number}
+use Rattle.judge.specs.Answer.{Answer, accepted, refused, isRefused, numberTold, onAccepted}
+use Rattle.judge.specs.Judge.{ofAdd, floatFaults, dtFaults, numberOf, firstFault, decided}
+use Rattle.judge.specs.Numbers.{«NO_SUCH», «NO_ROOM»}
+use Rattle.judge.specs.declared.Faults.{Faults}
 use Rattle.times.specs.declared.start_time.When.{When}
 use Rattle.times.specs.declared.tween.Tween.{Tween}
 use Rattle.values.specs.declared.value.FloatValue.{FloatValue}
@@ -22,11 +29,27 @@ use Rattle.parameter.specs.declared.float.FloatSet.{FloatSet}
 use Rattle.parameter.specs.declared.speed.SpeedAdvanced.{SpeedAdvanced}
 use Rattle.parameter.specs.declared.speed.SpeedParameter.{SpeedParameter}
 use Rattle.parameter.specs.declared.speed.SpeedSet.{SpeedSet}
+use Rattle.values.specs.Values.{speedValueFaults}
+use Rattle.clock.specs.OneClock.{newClock}
 use Rattle.clock.specs.declared.Clock.{Clock}
+use Rattle.clock_table.specs.ClockTables as clocks
+use Rattle.clock_table.specs.declared.Clocks.{Clocks}
+use Rattle.modulator.specs.Tweeners.{newTweener}
+use Rattle.modulator.specs.Lfos.{builderFaults, newLfo}
+use Rattle.modulator_table.specs.ModulatorTables as modulators
+use Rattle.modulator_table.specs.declared.Modulator.the-variants.{OfTweener, OfLfo}
+use Rattle.modulator_table.specs.declared.Modulators.{Modulators}
 use Rattle.modulator_table.specs.declared.Slot.{Slot}
+use Rattle.commands.specs.ClockCommands.{runClockOf}
+use Rattle.commands.specs.ModulatorCommands.{runModulatorOf}
+use Rattle.commands.specs.declared.clock_command.ClockCommand.{ClockCommand}
+use Rattle.commands.specs.declared.clock_command.ClockCommand.the-variants as clockCommand
+use Rattle.commands.specs.declared.modulator_command.ModulatorCommand.{ModulatorCommand}
+use Rattle.commands.specs.declared.modulator_command.ModulatorCommand.the-variants as modulatorCommand
+use Rattle.station.specs.Frames.{frameOf}
 use Rattle.station.specs.declared.Station.{Station}
-use Rattle.laws.specs.Calls.{Call, after, Kind, ofClock, ofModulator, keysOf, entriesOf, Told, refusal, named, done, told, numberIn, numberOf, Target}
-use Rattle.laws.proofs.lemmas.Deeds.{Deed, leaves, changes, removes, adds, turns, deed}
+use Rattle.laws.specs.Calls.{Call, clock, modulator, frame, after, Kind, ofClock, ofModulator, keysOf, entriesOf, Told, refusal, told, callNumber, Target}
+use Rattle.laws.proofs.lemmas.Deeds.{found-case, read-case, Deed, leaves, changes, removes, adds, turns, deed}
 
 -- ---- calls on a station
 
@@ -51,13 +74,81 @@ same-station s t h = go (s .clocks .keys) (s .clocks .clocks) (s .modulators .ke
 pub refusal-leaves : (st : Station) (c : Call) (n : ℕ) → told st c ≡ refusal n → after st c ≡ st
 refusal-leaves st c n e = same-station (after st c) st (λ k. unmoved (deed k st c) n e)
 
-pub refused-leaves : (st : Station) (c : Call) → (numberOf st c ≡ 0 → ⊥) → after st c ≡ st
+pub refused-leaves : (st : Station) (c : Call) → (callNumber st c ≡ 0 → ⊥) → after st c ≡ st
 refused-leaves st c n = go (told st c) refl n
   where
-    go : (o : Told) → told st c ≡ o → (numberIn o ≡ 0 → ⊥) → after st c ≡ st
-    go (refusal m) e n = refusal-leaves st c m e
-    go (named k i g) e n = absurd (n refl)
-    go done e n = absurd (n refl)
+    go : (o : Told) → told st c ≡ o → (numberTold o ≡ 0 → ⊥) → after st c ≡ st
+    go (refused m) e n = refusal-leaves st c m e
+    go (accepted x) e n = absurd (n refl)
+
+-- ---- a refusal's number
+
+-- an answer that is a refusal has a number of the table, and not 0, which says OK: RULES, ok
+abbrev pub Numbered : {A : Type 0} → Answer A → Type 0
+Numbered (accepted x) = Unit {0}
+Numbered (refused n) = n ≡ 0 → ⊥
+
+pub numbered-decided : {A : Type 0} (n : ℕ) (x : A) → Numbered (decided n (accepted x) refused)
+numbered-decided n x = go (eqb n 0) (eqb-false n 0)
+  where
+    go : (b : Bool) → (b ≡ false → n ≡ 0 → ⊥) → Numbered (cond b (accepted x) (refused n))
+    go true h = tt
+    go false h = h refl
+
+numbered-on : {A B : Type 0} (f : A → B) (a : Answer A) → Numbered a → Numbered (onAccepted f a)
+numbered-on f (accepted x) h = tt
+numbered-on f (refused n) h = h
+
+module _ {T E I D : Type 0} (k : Table T E I D) (t : T) where
+  pub numbered-read : {A : Type 0} (id : I) (f : E → A) → Numbered (readFound k t (whereIs k t id) f)
+  numbered-read id f =
+      found-case (λ w. Numbered (readFound k t w f)) (k .keysOf t) (k .slotIn id) (k .generationIn id) (λ z. omega arith) (λ l.
+      read-case Numbered (refused «NO_SUCH») (λ e. accepted (f e)) (λ z. omega arith) (λ e. tt) (k .entriesOf t) (k .slotIn id))
+
+  numbered-add : (f : Faults) (e : E) → Numbered (addedTo k t f e .answer)
+  numbered-add f e = go (eqb n 0) (eqb-false n 0)
+    where
+      n : ℕ
+      n = numberOf (ofAdd f (isRefused (freeOf 0 (k .keysOf t))))
+
+      put : (w : Answer Place) → freeOf 0 (k .keysOf t) ≡ w → Numbered (placedIn k t e w .answer)
+      put (accepted (place i g)) q = tt
+      put (refused m) q = λ z. let h : m ≡ «NO_ROOM» = room-number (k .keysOf t) 0 m q in omega arith
+
+      go : (b : Bool) → (b ≡ false → n ≡ 0 → ⊥) → Numbered (cond b (placedIn k t e (freeOf 0 (k .keysOf t))) (refusedAdd k t n) .answer)
+      go true h = put (freeOf 0 (k .keysOf t)) refl
+      go false h = h refl
+
+clocks-numbered : (t : Clocks) (c : ClockCommand) → Numbered (runClockOf t c .answer)
+unfolding runClockOf clocks.addClockOf clocks.clockTimeOf clocks.clockTickingOf clocks.clockSpeedOf
+clocks-numbered t (clockCommand.Add v) = numbered-on _ (clocks.addClockOf t v .answer) (numbered-add clocks.clockTable t (speedValueFaults v) (newClock v))
+clocks-numbered t (clockCommand.Remove id) = numbered-decided (clocks.removeOf t id .refused) _
+clocks-numbered t (clockCommand.Start id) = numbered-decided (clocks.tickOnOf true t id .refused) _
+clocks-numbered t (clockCommand.Stop id) = numbered-decided (clocks.tickOnOf false t id .refused) _
+clocks-numbered t (clockCommand.Reset id) = numbered-decided (clocks.resetClockOf t id .refused) _
+clocks-numbered t (clockCommand.SetSpeed id v w) = numbered-decided (clocks.setSpeedOf t id v w .refused) _
+clocks-numbered t (clockCommand.Time id) = numbered-on _ (clocks.clockTimeOf t id) (numbered-read clocks.clockTable t id (clocks.timeOf id))
+clocks-numbered t (clockCommand.Ticking id) = numbered-on _ (clocks.clockTickingOf t id) (numbered-read clocks.clockTable t id (λ c. c .ticking))
+clocks-numbered t (clockCommand.Speed id) = numbered-on _ (clocks.clockSpeedOf t id) (numbered-read clocks.clockTable t id (λ c. c .speed .raw))
+
+modulators-numbered : (t : Modulators) (c : ModulatorCommand) → Numbered (runModulatorOf t c .answer)
+unfolding runModulatorOf modulators.addTweenerOf modulators.addLfoOf modulators.modulatorValueOf
+modulators-numbered t (modulatorCommand.AddTweener x) = numbered-on _ (modulators.addTweenerOf t x .answer) (numbered-add modulators.modulatorTable t (floatFaults x) (modulators.slotOf (OfTweener (newTweener x))))
+modulators-numbered t (modulatorCommand.AddLfo b) = numbered-on _ (modulators.addLfoOf t b .answer) (numbered-add modulators.modulatorTable t (builderFaults b) (modulators.slotOf (OfLfo (newLfo b))))
+modulators-numbered t (modulatorCommand.Remove id) = numbered-decided (modulators.removeOf t id .refused) _
+modulators-numbered t (modulatorCommand.SetTweener id x w) = numbered-decided (modulators.setTweenerOf t id x w .refused) _
+modulators-numbered t (modulatorCommand.SetParameter id k v w) = numbered-decided (modulators.setParameterOf t id k v w .refused) _
+modulators-numbered t (modulatorCommand.SetWaveform id w) = numbered-decided (modulators.setWaveformOf t id w .refused) _
+modulators-numbered t (modulatorCommand.SetPhase id x) = numbered-decided (modulators.setPhaseOf t id x .refused) _
+modulators-numbered t (modulatorCommand.Value id) = numbered-on _ (modulators.modulatorValueOf t id) (numbered-read modulators.modulatorTable t id modulators.slotValue)
+
+pub call-numbered : (st : Station) (c : Call) → Numbered (told st c)
+call-numbered st (clock c) = clocks-numbered (st .clocks) c
+call-numbered st (modulator c) = modulators-numbered (st .modulators) c
+call-numbered st (frame dt) = numbered-decided (frameOf st dt .refused) _
+
+pub refusal-numbered : (st : Station) (c : Call) (n : ℕ) → told st c ≡ refusal n → n ≡ 0 → ⊥
+refusal-numbered st c n e = subst Numbered e (call-numbered st c)
 
 -- ---- parameters
 

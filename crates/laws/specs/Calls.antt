@@ -1,53 +1,30 @@
--- A station's calls as values: what a call leaves, what its answer tells, which entry it acts on. 01, "Refusal
--- numbers", "Names that cannot be shared", "Frame". Assumes nothing.
+-- A station's calls, as the crate `run` has them, and which entry a call acts on. 01, "Refusal numbers", "Names that
+-- cannot be shared", "Frame". Assumes nothing.
 use Prim.Native.Nat.{ℕ}
 use mathlib.Core.Path.{_≡_}
-use mathlib.Core.Bool.{Bool, true, cond}
-use mathlib.Core.List.{List, [], _∷_}
+use mathlib.Core.Bool.{Bool, true}
+use mathlib.Core.List.{List}
 use lib.ListN.{getD}
-use lib.Dec.{eqb}
-use lib.Ieee.{Float}
 use Rattle.ids.specs.Keys.{livesIn}
 use Rattle.ids.specs.declared.Key.{Key}
+use Rattle.judge.specs.Answer.{Answer, accepted, refused, numberTold}
 use Rattle.clock.specs.declared.Clock.{Clock}
 use Rattle.modulator_table.specs.declared.Slot.{Slot}
-use Rattle.commands.specs.ClockCommands.{runClockOf}
-use Rattle.commands.specs.ModulatorCommands.{runModulatorOf}
+use Rattle.commands.specs.Answers as answers
 use Rattle.commands.specs.declared.clock_command.ClockCommand.{ClockCommand}
 use Rattle.commands.specs.declared.clock_command.ClockCommand.the-variants as clocks
-use Rattle.commands.specs.declared.clock_command.ClockAnswer.{ClockAnswer}
-use Rattle.commands.specs.declared.clock_command.ClockAnswer.the-variants as clockAnswer
 use Rattle.commands.specs.declared.modulator_command.ModulatorCommand.{ModulatorCommand}
 use Rattle.commands.specs.declared.modulator_command.ModulatorCommand.the-variants as modulators
-use Rattle.commands.specs.declared.modulator_command.ModulatorAnswer.{ModulatorAnswer}
-use Rattle.commands.specs.declared.modulator_command.ModulatorAnswer.the-variants as modulatorAnswer
-use Rattle.station.specs.Frames.{frameOf}
 use Rattle.station.specs.declared.Station.{Station}
-
 -- ---- calls
 
-pub data Call : Type 0 where
-  clock : ClockCommand → Call
-  modulator : ModulatorCommand → Call
-  frame : Float → Call
-
--- the station that a call leaves: RULES, commands
-abbrev pub after : Station → Call → Station
-after st (clock c) = record { clocks = runClockOf (st .clocks) c .table; modulators = st .modulators }
-after st (modulator c) = record { clocks = st .clocks; modulators = runModulatorOf (st .modulators) c .table }
-after st (frame dt) = frameOf st dt .station
-
--- and that a run of calls leaves, the first call first
-unfoldable pub afterAll : Station → List Call → Station
-afterAll st [] = st
-afterAll st (c ∷ cs) = afterAll (after st c) cs
-
+pub use Rattle.run.specs.declared.Call.{Call}
+pub use Rattle.run.specs.declared.Call.the-variants.{Clock as clock, Modulator as modulator, Frame as frame}
+pub use Rattle.run.specs.Runs.{after, told}
+unfoldable pub use Rattle.run.specs.Runs.{afterAll}
 -- ---- the two tables
 
--- an id is of a clock or of a modulator: RULES, id
-pub data Kind : Type 0 where
-  ofClock : Kind
-  ofModulator : Kind
+pub use Rattle.commands.specs.Answers.{Kind, ofClock, ofModulator}
 
 abbrev pub keysOf : Kind → Station → List Key
 keysOf ofClock st = st .clocks .keys
@@ -67,43 +44,22 @@ entriesOf ofModulator st = st .modulators .slots
 
 -- ---- answers
 
--- what an answer tells: the number of a refusal, the id of the entry that was added, or that the call was done
-pub data Told : Type 0 where
-  refusal : ℕ → Told
-  named : Kind → ℕ → ℕ → Told
-  done : Told
+-- what an answer tells: the number of a refusal, or what an accepted call gives, as the id of an entry that was added
+abbrev pub Told : Type 0
+Told = Answer answers.Given
 
-abbrev pub clockTold : ClockAnswer → Told
-clockTold clockAnswer.Done = done
-clockTold (clockAnswer.Id id) = named ofClock (id .slot) (id .generation)
-clockTold (clockAnswer.Time t) = done
-clockTold (clockAnswer.Flag b) = done
-clockTold (clockAnswer.Speed s) = done
-clockTold (clockAnswer.Refused n) = refusal n
+abbrev pub refusal : ℕ → Told
+refusal n = refused n
 
-abbrev pub modulatorTold : ModulatorAnswer → Told
-modulatorTold modulatorAnswer.Done = done
-modulatorTold (modulatorAnswer.Id id) = named ofModulator (id .slot) (id .generation)
-modulatorTold (modulatorAnswer.Value x) = done
-modulatorTold (modulatorAnswer.Refused n) = refusal n
+abbrev pub named : Kind → ℕ → ℕ → Told
+named k i g = accepted (answers.named k i g)
 
--- 0 is OK: RULES, ok
-abbrev pub frameTold : ℕ → Told
-frameTold n = cond (eqb n 0) done (refusal n)
-
-abbrev pub told : Station → Call → Told
-told st (clock c) = clockTold (runClockOf (st .clocks) c .answer)
-told st (modulator c) = modulatorTold (runModulatorOf (st .modulators) c .answer)
-told st (frame dt) = frameTold (frameOf st dt .refused)
-
-abbrev pub numberIn : Told → ℕ
-numberIn (refusal n) = n
-numberIn (named k i g) = 0
-numberIn done = 0
+abbrev pub done : Told
+done = accepted answers.done
 
 -- the number of the refusal, and 0 where the call is accepted
-abbrev pub numberOf : Station → Call → ℕ
-numberOf st c = numberIn (told st c)
+abbrev pub callNumber : Station → Call → ℕ
+callNumber st c = numberTold (told st c)
 
 -- ---- what a call acts on
 

@@ -1,50 +1,16 @@
 -- The calls clock.* of docs/BENCH.md: the command that a line is, if it is one. Assumes nothing.
 use Prim.Native.Nat.{ℕ}
 use mathlib.Core.Bool.{cond}
-use mathlib.Core.List.{List, [], _∷_}
-use Rattle.text.specs.declared.Word.{Word}
+use mathlib.Core.List.{List}
 use Rattle.times.specs.declared.time.ClockId.{ClockId}
-use Rattle.grammar.specs.Grammar.{named, endedAt, idAt, withId}
+use Rattle.grammar.specs.Grammar.{endedAt, idAt, withId}
+use Rattle.names.specs.declared.OneClock.{OneClock}
+use Rattle.names.specs.declared.OneClock.the-variants as one
+use Rattle.commands.specs.declared.clock_command.ClockCommand.{ClockCommand}
 use Rattle.commands.specs.declared.clock_command.ClockCommand.the-variants.{Add, Remove, Start, Stop, Reset, SetSpeed, Time, Ticking, Speed}
 use Rattle.lines.specs.Things.{speedValueAt, tweenAt, withSpeedValue, withTween}
 use Rattle.lines.specs.declared.clock_lines.ClockLine.{ClockLine}
 use Rattle.lines.specs.declared.clock_lines.ClockLine.the-variants.{Is, No}
-
--- "clock.add"
-abbrev pub «clockAdd» : List ℕ
-«clockAdd» = 0x63 ∷ 0x6c ∷ 0x6f ∷ 0x63 ∷ 0x6b ∷ 0x2e ∷ 0x61 ∷ 0x64 ∷ 0x64 ∷ []
-
--- "clock.drop"
-abbrev pub «clockDrop» : List ℕ
-«clockDrop» = 0x63 ∷ 0x6c ∷ 0x6f ∷ 0x63 ∷ 0x6b ∷ 0x2e ∷ 0x64 ∷ 0x72 ∷ 0x6f ∷ 0x70 ∷ []
-
--- "clock.start"
-abbrev pub «clockStart» : List ℕ
-«clockStart» = 0x63 ∷ 0x6c ∷ 0x6f ∷ 0x63 ∷ 0x6b ∷ 0x2e ∷ 0x73 ∷ 0x74 ∷ 0x61 ∷ 0x72 ∷ 0x74 ∷ []
-
--- "clock.stop"
-abbrev pub «clockStop» : List ℕ
-«clockStop» = 0x63 ∷ 0x6c ∷ 0x6f ∷ 0x63 ∷ 0x6b ∷ 0x2e ∷ 0x73 ∷ 0x74 ∷ 0x6f ∷ 0x70 ∷ []
-
--- "clock.reset"
-abbrev pub «clockReset» : List ℕ
-«clockReset» = 0x63 ∷ 0x6c ∷ 0x6f ∷ 0x63 ∷ 0x6b ∷ 0x2e ∷ 0x72 ∷ 0x65 ∷ 0x73 ∷ 0x65 ∷ 0x74 ∷ []
-
--- "clock.speed"
-abbrev pub «clockSpeed» : List ℕ
-«clockSpeed» = 0x63 ∷ 0x6c ∷ 0x6f ∷ 0x63 ∷ 0x6b ∷ 0x2e ∷ 0x73 ∷ 0x70 ∷ 0x65 ∷ 0x65 ∷ 0x64 ∷ []
-
--- "clock.time"
-abbrev pub «clockTime» : List ℕ
-«clockTime» = 0x63 ∷ 0x6c ∷ 0x6f ∷ 0x63 ∷ 0x6b ∷ 0x2e ∷ 0x74 ∷ 0x69 ∷ 0x6d ∷ 0x65 ∷ []
-
--- "clock.ticking"
-abbrev pub «clockTicking» : List ℕ
-«clockTicking» = 0x63 ∷ 0x6c ∷ 0x6f ∷ 0x63 ∷ 0x6b ∷ 0x2e ∷ 0x74 ∷ 0x69 ∷ 0x63 ∷ 0x6b ∷ 0x69 ∷ 0x6e ∷ 0x67 ∷ []
-
--- "clock.getspeed"
-abbrev pub «clockGetspeed» : List ℕ
-«clockGetspeed» = 0x63 ∷ 0x6c ∷ 0x6f ∷ 0x63 ∷ 0x6b ∷ 0x2e ∷ 0x67 ∷ 0x65 ∷ 0x74 ∷ 0x73 ∷ 0x70 ∷ 0x65 ∷ 0x65 ∷ 0x64 ∷ []
 
 -- a line with more words than its call has is no call
 abbrev pub whole : List ℕ → ℕ → ClockLine → ClockLine
@@ -62,21 +28,19 @@ setSpeedLine s at =
     withTween No (tweenAt s b) (λ t to.
     whole s to (Is (SetSpeed (record { slot = slot; generation = generation }) v t)))))
 
--- "`clock.drop ID` `clock.start ID` `clock.stop ID` `clock.reset ID`", "`clock.time ID`", "`clock.ticking ID`",
--- "`clock.getspeed ID`"
-unfoldable pub byIdLine : List ℕ → Word → ClockId → ClockLine
-byIdLine s name id =
-    cond (named s name «clockDrop») (Is (Remove id))
-    (cond (named s name «clockStart») (Is (Start id))
-    (cond (named s name «clockStop») (Is (Stop id))
-    (cond (named s name «clockReset») (Is (Reset id))
-    (cond (named s name «clockTime») (Is (Time id))
-    (cond (named s name «clockTicking») (Is (Ticking id))
-    (cond (named s name «clockGetspeed») (Is (Speed id)) No))))))
+-- the command that a call on one clock is
+abbrev pub commandOf : OneClock → ClockId → ClockCommand
+commandOf one.Drop id = Remove id
+commandOf one.Start id = Start id
+commandOf one.Stop id = Stop id
+commandOf one.Reset id = Reset id
+commandOf one.Time id = Time id
+commandOf one.Ticking id = Ticking id
+commandOf one.GetSpeed id = Speed id
 
-unfoldable pub clockLine : List ℕ → Word → ClockLine
-clockLine s name =
-    cond (named s name «clockAdd») (addLine s (name .to))
-    (cond (named s name «clockSpeed») (setSpeedLine s (name .to))
-    (withId No (idAt s (name .to)) (λ slot generation to.
-    whole s to (byIdLine s name (record { slot = slot; generation = generation })))))
+-- "`clock.drop ID` `clock.start ID` `clock.stop ID` `clock.reset ID`", "`clock.time ID`", "`clock.ticking ID`",
+-- "`clock.getspeed ID`", behind their names
+unfoldable pub byIdLine : List ℕ → ℕ → OneClock → ClockLine
+byIdLine s at call =
+    withId No (idAt s at) (λ slot generation to.
+    whole s to (Is (commandOf call (record { slot = slot; generation = generation }))))

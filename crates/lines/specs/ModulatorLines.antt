@@ -2,62 +2,24 @@
 -- Assumes nothing.
 use Prim.Native.Nat.{ℕ}
 use mathlib.Core.Bool.{cond}
-use mathlib.Core.List.{List, [], _∷_}
-use Rattle.text.specs.declared.Word.{Word}
+use mathlib.Core.List.{List}
 use Rattle.values.specs.declared.value.FloatValue.{FloatValue}
 use Rattle.values.specs.declared.value.ModulatorId.{ModulatorId}
 use Rattle.waveform.specs.declared.Waveform.{Waveform}
-use Rattle.grammar.specs.Grammar.{named, endedAt, floatAt, idAt, floatValueAt, waveAt, withFloat, withId}
+use Rattle.grammar.specs.Grammar.{endedAt, floatAt, idAt, floatValueAt, waveAt, withFloat, withId}
 use Rattle.grammar.specs.declared.FloatValueAt.{FloatValueAt}
 use Rattle.grammar.specs.declared.FloatValueAt.the-variants as floatValue
 use Rattle.grammar.specs.declared.WaveAt.{WaveAt}
 use Rattle.grammar.specs.declared.WaveAt.the-variants as wave
 use Rattle.modulator.specs.declared.lfo.LfoParameter.{LfoParameter}
 use Rattle.modulator.specs.declared.lfo.LfoParameter.the-variants.{Frequency, Amplitude, Offset}
+use Rattle.names.specs.declared.OneModulator.{OneModulator}
+use Rattle.names.specs.declared.OneModulator.the-variants as one
+use Rattle.commands.specs.declared.modulator_command.ModulatorCommand.{ModulatorCommand}
 use Rattle.commands.specs.declared.modulator_command.ModulatorCommand.the-variants.{AddTweener, AddLfo, Remove, SetTweener, SetParameter, SetWaveform, SetPhase, Value}
 use Rattle.lines.specs.Things.{tweenAt, withTween}
 use Rattle.lines.specs.declared.modulator_lines.ModulatorLine.{ModulatorLine}
 use Rattle.lines.specs.declared.modulator_lines.ModulatorLine.the-variants.{Is, No}
-
--- "tweener.add"
-abbrev pub «tweenerAdd» : List ℕ
-«tweenerAdd» = 0x74 ∷ 0x77 ∷ 0x65 ∷ 0x65 ∷ 0x6e ∷ 0x65 ∷ 0x72 ∷ 0x2e ∷ 0x61 ∷ 0x64 ∷ 0x64 ∷ []
-
--- "tweener.set"
-abbrev pub «tweenerSet» : List ℕ
-«tweenerSet» = 0x74 ∷ 0x77 ∷ 0x65 ∷ 0x65 ∷ 0x6e ∷ 0x65 ∷ 0x72 ∷ 0x2e ∷ 0x73 ∷ 0x65 ∷ 0x74 ∷ []
-
--- "lfo.add"
-abbrev pub «lfoAdd» : List ℕ
-«lfoAdd» = 0x6c ∷ 0x66 ∷ 0x6f ∷ 0x2e ∷ 0x61 ∷ 0x64 ∷ 0x64 ∷ []
-
--- "lfo.freq"
-abbrev pub «lfoFreq» : List ℕ
-«lfoFreq» = 0x6c ∷ 0x66 ∷ 0x6f ∷ 0x2e ∷ 0x66 ∷ 0x72 ∷ 0x65 ∷ 0x71 ∷ []
-
--- "lfo.amp"
-abbrev pub «lfoAmp» : List ℕ
-«lfoAmp» = 0x6c ∷ 0x66 ∷ 0x6f ∷ 0x2e ∷ 0x61 ∷ 0x6d ∷ 0x70 ∷ []
-
--- "lfo.off"
-abbrev pub «lfoOff» : List ℕ
-«lfoOff» = 0x6c ∷ 0x66 ∷ 0x6f ∷ 0x2e ∷ 0x6f ∷ 0x66 ∷ 0x66 ∷ []
-
--- "lfo.wave"
-abbrev pub «lfoWave» : List ℕ
-«lfoWave» = 0x6c ∷ 0x66 ∷ 0x6f ∷ 0x2e ∷ 0x77 ∷ 0x61 ∷ 0x76 ∷ 0x65 ∷ []
-
--- "lfo.phase"
-abbrev pub «lfoPhase» : List ℕ
-«lfoPhase» = 0x6c ∷ 0x66 ∷ 0x6f ∷ 0x2e ∷ 0x70 ∷ 0x68 ∷ 0x61 ∷ 0x73 ∷ 0x65 ∷ []
-
--- "mod.value"
-abbrev pub «modValue» : List ℕ
-«modValue» = 0x6d ∷ 0x6f ∷ 0x64 ∷ 0x2e ∷ 0x76 ∷ 0x61 ∷ 0x6c ∷ 0x75 ∷ 0x65 ∷ []
-
--- "mod.drop"
-abbrev pub «modDrop» : List ℕ
-«modDrop» = 0x6d ∷ 0x6f ∷ 0x64 ∷ 0x2e ∷ 0x64 ∷ 0x72 ∷ 0x6f ∷ 0x70 ∷ []
 
 -- a line with more words than its call has is no call
 abbrev pub whole : List ℕ → ℕ → ModulatorLine → ModulatorLine
@@ -107,22 +69,21 @@ setWaveformLine s at id = withWave (waveAt s at) (λ w to. whole s to (Is (SetWa
 unfoldable pub setPhaseLine : List ℕ → ℕ → ModulatorId → ModulatorLine
 setPhaseLine s at id = withFloat No (floatAt s at) (λ x to. whole s to (Is (SetPhase id x)))
 
--- the calls whose first argument is an id, behind it
-unfoldable pub byIdLine : List ℕ → Word → ℕ → ModulatorId → ModulatorLine
-byIdLine s name at id =
-    cond (named s name «tweenerSet») (setTweenerLine s at id)
-    (cond (named s name «lfoFreq») (setParameterLine s at id Frequency)
-    (cond (named s name «lfoAmp») (setParameterLine s at id Amplitude)
-    (cond (named s name «lfoOff») (setParameterLine s at id Offset)
-    (cond (named s name «lfoWave») (setWaveformLine s at id)
-    (cond (named s name «lfoPhase») (setPhaseLine s at id)
-    (whole s at
-    (cond (named s name «modValue») (Is (Value id))
-    (cond (named s name «modDrop») (Is (Remove id)) No))))))))
+-- "`mod.value ID`", "`mod.drop ID`", behind the id
+unfoldable pub readLine : List ℕ → ℕ → ModulatorCommand → ModulatorLine
+readLine s at command = whole s at (Is command)
 
-unfoldable pub modulatorLine : List ℕ → Word → ModulatorLine
-modulatorLine s name =
-    cond (named s name «tweenerAdd») (addTweenerLine s (name .to))
-    (cond (named s name «lfoAdd») (addLfoLine s (name .to))
-    (withId No (idAt s (name .to)) (λ slot generation to.
-    byIdLine s name to (record { slot = slot; generation = generation }))))
+-- the calls whose first argument is an id, behind it
+unfoldable pub oneLine : List ℕ → ℕ → OneModulator → ModulatorId → ModulatorLine
+oneLine s at one.Set id = setTweenerLine s at id
+oneLine s at one.Freq id = setParameterLine s at id Frequency
+oneLine s at one.Amp id = setParameterLine s at id Amplitude
+oneLine s at one.Off id = setParameterLine s at id Offset
+oneLine s at one.Wave id = setWaveformLine s at id
+oneLine s at one.Phase id = setPhaseLine s at id
+oneLine s at one.Value id = readLine s at (Value id)
+oneLine s at one.Drop id = readLine s at (Remove id)
+
+-- the same, behind their names
+unfoldable pub byIdLine : List ℕ → ℕ → OneModulator → ModulatorLine
+byIdLine s at call = withId No (idAt s at) (λ slot generation to. oneLine s to call (record { slot = slot; generation = generation }))

@@ -1,13 +1,13 @@
 // The calls clock.*, as commands.
 ghost use mathlib.Core.Path.{_≡_};
-ghost use Rattle.lines.specs.ClockLines.{addLine, setSpeedLine, byIdLine, clockLine};
+ghost use Rattle.lines.specs.ClockLines.{addLine, setSpeedLine, commandOf, byIdLine};
 use crate::things::SpeedValueAt;
 use crate::things::TweenAt;
 use crate::things::speed_value;
 use crate::things::tween;
 use commands::clock_command::ClockCommand;
 use grammar::IdAt;
-use text::Word;
+use names::OneClock;
 use times::time::ClockId;
 
 pub enum ClockLine {
@@ -15,7 +15,8 @@ pub enum ClockLine {
     No,
 }
 
-fn add(line: &[u8], at: usize) -> ClockLine
+// The call clock.add, behind its name.
+pub fn add_line(line: &[u8], at: usize) -> ClockLine
     ensures { λ r. ⌜ r ≡ addLine (now (line .entry)) at ⌝ }
 {
     let SpeedValueAt::Is(v, to) = speed_value(line, at) else {
@@ -27,7 +28,8 @@ fn add(line: &[u8], at: usize) -> ClockLine
     ClockLine::Is(ClockCommand::Add(v))
 }
 
-fn set_speed(line: &[u8], at: usize) -> ClockLine
+// The call clock.speed, behind its name.
+pub fn set_speed_line(line: &[u8], at: usize) -> ClockLine
     ensures { λ r. ⌜ r ≡ setSpeedLine (now (line .entry)) at ⌝ }
 {
     let IdAt::Is(slot, generation, a) = grammar::id(line, at) else {
@@ -45,49 +47,30 @@ fn set_speed(line: &[u8], at: usize) -> ClockLine
     ClockLine::Is(ClockCommand::SetSpeed(ClockId { slot, generation }, v, t))
 }
 
-// The calls that take an id and nothing else.
-fn by_id(line: &[u8], name: Word, id: ClockId) -> ClockLine
-    ensures { λ r. ⌜ r ≡ byIdLine (now (line .entry)) name id ⌝ }
+// The command that a call on one clock is.
+fn command(call: OneClock, id: ClockId) -> ClockCommand
+    ensures { λ r. ⌜ r ≡ commandOf call id ⌝ }
 {
-    if grammar::is(line, name, b"clock.drop") {
-        return ClockLine::Is(ClockCommand::Remove(id));
+    match call {
+        OneClock::Drop => ClockCommand::Remove(id),
+        OneClock::Start => ClockCommand::Start(id),
+        OneClock::Stop => ClockCommand::Stop(id),
+        OneClock::Reset => ClockCommand::Reset(id),
+        OneClock::Time => ClockCommand::Time(id),
+        OneClock::Ticking => ClockCommand::Ticking(id),
+        OneClock::GetSpeed => ClockCommand::Speed(id),
     }
-    if grammar::is(line, name, b"clock.start") {
-        return ClockLine::Is(ClockCommand::Start(id));
-    }
-    if grammar::is(line, name, b"clock.stop") {
-        return ClockLine::Is(ClockCommand::Stop(id));
-    }
-    if grammar::is(line, name, b"clock.reset") {
-        return ClockLine::Is(ClockCommand::Reset(id));
-    }
-    if grammar::is(line, name, b"clock.time") {
-        return ClockLine::Is(ClockCommand::Time(id));
-    }
-    if grammar::is(line, name, b"clock.ticking") {
-        return ClockLine::Is(ClockCommand::Ticking(id));
-    }
-    if grammar::is(line, name, b"clock.getspeed") {
-        return ClockLine::Is(ClockCommand::Speed(id));
-    }
-    ClockLine::No
 }
 
-pub fn clock_line(line: &[u8], name: Word) -> ClockLine
-    ensures { λ r. ⌜ r ≡ clockLine (now (line .entry)) name ⌝ }
+// The calls that take an id and nothing else, behind their names.
+pub fn by_id_line(line: &[u8], at: usize, call: OneClock) -> ClockLine
+    ensures { λ r. ⌜ r ≡ byIdLine (now (line .entry)) at call ⌝ }
 {
-    let at = name.to;
-    if grammar::is(line, name, b"clock.add") {
-        return add(line, at);
-    }
-    if grammar::is(line, name, b"clock.speed") {
-        return set_speed(line, at);
-    }
     let IdAt::Is(slot, generation, to) = grammar::id(line, at) else {
         return ClockLine::No;
     };
     if !grammar::ended(line, to) {
         return ClockLine::No;
     }
-    by_id(line, name, ClockId { slot, generation })
+    ClockLine::Is(command(call, ClockId { slot, generation }))
 }

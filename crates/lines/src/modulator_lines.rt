@@ -1,6 +1,6 @@
 // The calls tweener.*, lfo.*, mod.value and mod.drop, as commands.
 ghost use mathlib.Core.Path.{_≡_};
-ghost use Rattle.lines.specs.ModulatorLines.{addTweenerLine, addLfoLine, setTweenerLine, setParameterLine, setWaveformLine, setPhaseLine, byIdLine, modulatorLine};
+ghost use Rattle.lines.specs.ModulatorLines.{addTweenerLine, addLfoLine, setTweenerLine, setParameterLine, setWaveformLine, setPhaseLine, readLine, oneLine, byIdLine};
 use crate::things::TweenAt;
 use crate::things::tween;
 use commands::modulator_command::ModulatorCommand;
@@ -10,7 +10,7 @@ use grammar::IdAt;
 use grammar::WaveAt;
 use modulator::lfo::LfoBuilder;
 use modulator::lfo::LfoParameter;
-use text::Word;
+use names::OneModulator;
 use values::value::ModulatorId;
 
 pub enum ModulatorLine {
@@ -18,7 +18,8 @@ pub enum ModulatorLine {
     No,
 }
 
-fn add_tweener(line: &[u8], at: usize) -> ModulatorLine
+// The call tweener.add, behind its name.
+pub fn add_tweener_line(line: &[u8], at: usize) -> ModulatorLine
     ensures { λ r. ⌜ r ≡ addTweenerLine (now (line .entry)) at ⌝ }
 {
     let FloatAt::Is(x, to) = grammar::float(line, at) else {
@@ -30,7 +31,8 @@ fn add_tweener(line: &[u8], at: usize) -> ModulatorLine
     ModulatorLine::Is(ModulatorCommand::AddTweener(x))
 }
 
-fn add_lfo(line: &[u8], at: usize) -> ModulatorLine
+// The call lfo.add, behind its name.
+pub fn add_lfo_line(line: &[u8], at: usize) -> ModulatorLine
     ensures { λ r. ⌜ r ≡ addLfoLine (now (line .entry)) at ⌝ }
 {
     let WaveAt::Is(waveform, a) = grammar::wave(line, at) else {
@@ -114,52 +116,38 @@ fn set_phase(line: &[u8], at: usize, id: ModulatorId) -> ModulatorLine
     ModulatorLine::Is(ModulatorCommand::SetPhase(id, x))
 }
 
-// The calls whose first argument is an id, behind it.
-fn by_id(line: &[u8], name: Word, at: usize, id: ModulatorId) -> ModulatorLine
-    ensures { λ r. ⌜ r ≡ byIdLine (now (line .entry)) name at id ⌝ }
+// A call that takes an id and nothing else, as the command that it is.
+fn read(line: &[u8], at: usize, command: ModulatorCommand) -> ModulatorLine
+    ensures { λ r. ⌜ r ≡ readLine (now (line .entry)) at command ⌝ }
 {
-    if grammar::is(line, name, b"tweener.set") {
-        return set_tweener(line, at, id);
-    }
-    if grammar::is(line, name, b"lfo.freq") {
-        return set_parameter(line, at, id, LfoParameter::Frequency);
-    }
-    if grammar::is(line, name, b"lfo.amp") {
-        return set_parameter(line, at, id, LfoParameter::Amplitude);
-    }
-    if grammar::is(line, name, b"lfo.off") {
-        return set_parameter(line, at, id, LfoParameter::Offset);
-    }
-    if grammar::is(line, name, b"lfo.wave") {
-        return set_waveform(line, at, id);
-    }
-    if grammar::is(line, name, b"lfo.phase") {
-        return set_phase(line, at, id);
-    }
     if !grammar::ended(line, at) {
         return ModulatorLine::No;
     }
-    if grammar::is(line, name, b"mod.value") {
-        return ModulatorLine::Is(ModulatorCommand::Value(id));
-    }
-    if grammar::is(line, name, b"mod.drop") {
-        return ModulatorLine::Is(ModulatorCommand::Remove(id));
-    }
-    ModulatorLine::No
+    ModulatorLine::Is(command)
 }
 
-pub fn modulator_line(line: &[u8], name: Word) -> ModulatorLine
-    ensures { λ r. ⌜ r ≡ modulatorLine (now (line .entry)) name ⌝ }
+// The calls whose first argument is an id, behind it.
+fn one(line: &[u8], at: usize, call: OneModulator, id: ModulatorId) -> ModulatorLine
+    ensures { λ r. ⌜ r ≡ oneLine (now (line .entry)) at call id ⌝ }
 {
-    let at = name.to;
-    if grammar::is(line, name, b"tweener.add") {
-        return add_tweener(line, at);
+    match call {
+        OneModulator::Set => set_tweener(line, at, id),
+        OneModulator::Freq => set_parameter(line, at, id, LfoParameter::Frequency),
+        OneModulator::Amp => set_parameter(line, at, id, LfoParameter::Amplitude),
+        OneModulator::Off => set_parameter(line, at, id, LfoParameter::Offset),
+        OneModulator::Wave => set_waveform(line, at, id),
+        OneModulator::Phase => set_phase(line, at, id),
+        OneModulator::Value => read(line, at, ModulatorCommand::Value(id)),
+        OneModulator::Drop => read(line, at, ModulatorCommand::Remove(id)),
     }
-    if grammar::is(line, name, b"lfo.add") {
-        return add_lfo(line, at);
-    }
+}
+
+// The same, behind their names.
+pub fn by_id_line(line: &[u8], at: usize, call: OneModulator) -> ModulatorLine
+    ensures { λ r. ⌜ r ≡ byIdLine (now (line .entry)) at call ⌝ }
+{
     let IdAt::Is(slot, generation, to) = grammar::id(line, at) else {
         return ModulatorLine::No;
     };
-    by_id(line, name, to, ModulatorId { slot, generation })
+    one(line, to, call, ModulatorId { slot, generation })
 }

@@ -1,15 +1,14 @@
--- The four sets are one: each is `setBy` of what it asks, with the number of its first fault; and what the code makes
--- of the entry that it found is `setBy`. Assumes nothing.
+-- The four sets are one: each is `setBy` of what it asks and of its faults. Assumes nothing.
 use Prim.Native.Nat.{ℕ, zero, suc}
-use mathlib.Core.Path.{_≡_, refl, sym, _∙_}
-use mathlib.Core.Bool.{Bool}
+use mathlib.Core.Path.{_≡_, refl}
 use mathlib.Core.List.{List, [], _∷_}
 use lib.Ieee.{Float}
 use Rattle.ids.specs.Lists.{readAt}
-use Rattle.ids.specs.declared.Found.{Found}
-use Rattle.ids.specs.declared.Found.the-variants as found
+use Rattle.judge.specs.Answer.{Answer, accepted, refused}
+use Rattle.judge.specs.Numbers.{«NO_SUCH»}
+use Rattle.judge.specs.declared.Faults.{Faults}
 use Rattle.ids.specs.Tables.{whereIs, refusedCall}
-use Rattle.judge.specs.Judge.{floatFaults, firstFault}
+use Rattle.judge.specs.Judge.{floatFaults, firstFault, decided}
 use Rattle.waveform.specs.Waves.{waveFaults}
 use Rattle.times.specs.declared.tween.Tween.{Tween}
 use Rattle.values.specs.declared.value.FloatValue.{FloatValue}
@@ -19,8 +18,7 @@ use Rattle.parameter.specs.FloatParameters.{targetFaults}
 use Rattle.modulator.specs.Tweeners.{tweenerToOf, tweenerFaults}
 use Rattle.modulator.specs.Lfos.{withWaveOf, withPhaseOf}
 use Rattle.modulator.specs.declared.lfo.LfoParameter.{LfoParameter}
-use Rattle.modulator_table.specs.ModulatorTables.{modulatorTable, onModulator, onTweener, onLfo, changeJudged, parameterBy, setTweenerOf, setParameterOf, setWaveformOf, setPhaseOf}
-use Rattle.modulator_table.specs.Entries.{modulatorAt, settledAt}
+use Rattle.modulator_table.specs.ModulatorTables.{modulatorTable, onModulator, onTweener, onLfo, changedTo, changeJudged, parameterBy, setTweenerOf, setParameterOf, setWaveformOf, setPhaseOf}
 use Rattle.modulator_table.specs.Sets.{isLfo, refusalOf, modulatorBy, setBy}
 use Rattle.modulator_table.specs.declared.Modulator.{Modulator}
 use Rattle.modulator_table.specs.declared.Modulator.the-variants.{OfTweener, OfLfo}
@@ -29,7 +27,6 @@ use Rattle.modulator_table.specs.declared.Modulators.{Modulators}
 use Rattle.modulator_table.specs.declared.ModulatorDone.{ModulatorDone}
 use Rattle.modulator_table.specs.declared.Asked.{Asked}
 use Rattle.modulator_table.specs.declared.Asked.the-variants as asked
-use Rattle.modulator_table.proofs.Lookups.{Lookup, read-modulator}
 
 read-same : {B : Type 0} (none : B) (f g : Slot → B) → ((s : Slot) → f s ≡ g s) → (l : List Slot) (i : ℕ) → readAt none f l i ≡ readAt none g l i
 unfolding readAt
@@ -38,62 +35,53 @@ read-same none f g same (s ∷ l) zero = same s
 read-same none f g same (s ∷ l) (suc i) = read-same none f g same l i
 
 module _ (t : Modulators) where
-  on-same : (f g : ℕ → Modulator → ModulatorDone) → ((i : ℕ) (m : Modulator) → f i m ≡ g i m) → (w : Found) → onModulator t w f ≡ onModulator t w g
-  on-same f g same found.Nothing = refl
-  on-same f g same (found.At i) = read-same (refusedCall modulatorTable t 7) (λ s. f i (s .modulator)) (λ s. g i (s .modulator)) (λ s. same i (s .modulator)) (t .slots) i
+  on-same : (f g : ℕ → Modulator → ModulatorDone) → ((i : ℕ) (m : Modulator) → f i m ≡ g i m) → (w : Answer ℕ) → onModulator t w f ≡ onModulator t w g
+  on-same f g same (refused n) = refl
+  on-same f g same (accepted i) = read-same (refusedCall modulatorTable t «NO_SUCH») (λ s. f i (s .modulator)) (λ s. g i (s .modulator)) (λ s. same i (s .modulator)) (t .slots) i
 
   -- what a set makes of the modulator m in slot i
-  abbrev made : Asked → ℕ → ℕ → Modulator → ModulatorDone
-  made a n i m = settledAt t i (refusalOf (isLfo m) a n) (modulatorBy m a)
+  abbrev made : Asked → Faults → ℕ → Modulator → ModulatorDone
+  made a f i m = decided (refusalOf (isLfo m) a (firstFault f)) (changedTo t i (modulatorBy m a)) (refusedCall modulatorTable t)
 
   module _ (id : ModulatorId) where
-    pub tweener-set : (x : Float) (w : Tween) → setBy t id (asked.Target x w) (firstFault (tweenerFaults x w)) ≡ setTweenerOf t id x w
+    pub tweener-set : (x : Float) (w : Tween) → setBy t id (asked.Target x w) (tweenerFaults x w) ≡ setTweenerOf t id x w
     unfolding setBy setTweenerOf
     tweener-set x w =
-        on-same (made (asked.Target x w) (firstFault (tweenerFaults x w)))
+        on-same (made (asked.Target x w) (tweenerFaults x w))
         (λ i m. onTweener t m (λ old. changeJudged t i (tweenerFaults x w) (OfTweener (tweenerToOf x w old)))) go (whereIs modulatorTable t id)
       where
-        go : (i : ℕ) (m : Modulator) → made (asked.Target x w) (firstFault (tweenerFaults x w)) i m ≡ onTweener t m (λ old. changeJudged t i (tweenerFaults x w) (OfTweener (tweenerToOf x w old)))
+        go : (i : ℕ) (m : Modulator) → made (asked.Target x w) (tweenerFaults x w) i m ≡ onTweener t m (λ old. changeJudged t i (tweenerFaults x w) (OfTweener (tweenerToOf x w old)))
         go i (OfTweener v) = refl
         go i (OfLfo l) = refl
 
-    pub wave-set : (w : Waveform) → setBy t id (asked.Wave w) (firstFault (waveFaults w)) ≡ setWaveformOf t id w
+    pub wave-set : (w : Waveform) → setBy t id (asked.Wave w) (waveFaults w) ≡ setWaveformOf t id w
     unfolding setBy setWaveformOf
     wave-set w =
-        on-same (made (asked.Wave w) (firstFault (waveFaults w)))
+        on-same (made (asked.Wave w) (waveFaults w))
         (λ i m. onLfo t m (λ old. changeJudged t i (waveFaults w) (OfLfo (withWaveOf w old)))) go (whereIs modulatorTable t id)
       where
-        go : (i : ℕ) (m : Modulator) → made (asked.Wave w) (firstFault (waveFaults w)) i m ≡ onLfo t m (λ old. changeJudged t i (waveFaults w) (OfLfo (withWaveOf w old)))
+        go : (i : ℕ) (m : Modulator) → made (asked.Wave w) (waveFaults w) i m ≡ onLfo t m (λ old. changeJudged t i (waveFaults w) (OfLfo (withWaveOf w old)))
         go i (OfTweener v) = refl
         go i (OfLfo l) = refl
 
-    pub phase-set : (x : Float) → setBy t id (asked.Phase x) (firstFault (floatFaults x)) ≡ setPhaseOf t id x
+    pub phase-set : (x : Float) → setBy t id (asked.Phase x) (floatFaults x) ≡ setPhaseOf t id x
     unfolding setBy setPhaseOf
     phase-set x =
-        on-same (made (asked.Phase x) (firstFault (floatFaults x)))
+        on-same (made (asked.Phase x) (floatFaults x))
         (λ i m. onLfo t m (λ old. changeJudged t i (floatFaults x) (OfLfo (withPhaseOf x old)))) go (whereIs modulatorTable t id)
       where
-        go : (i : ℕ) (m : Modulator) → made (asked.Phase x) (firstFault (floatFaults x)) i m ≡ onLfo t m (λ old. changeJudged t i (floatFaults x) (OfLfo (withPhaseOf x old)))
+        go : (i : ℕ) (m : Modulator) → made (asked.Phase x) (floatFaults x) i m ≡ onLfo t m (λ old. changeJudged t i (floatFaults x) (OfLfo (withPhaseOf x old)))
         go i (OfTweener v) = refl
         go i (OfLfo l) = refl
 
     pub parameter-set :
         (k : LfoParameter) (v : FloatValue) (w : Tween)
-        → setBy t id (asked.Parameter k v w) (firstFault (targetFaults v w)) ≡ setParameterOf t id k v w
+        → setBy t id (asked.Parameter k v w) (targetFaults v w) ≡ setParameterOf t id k v w
     unfolding setBy setParameterOf
     parameter-set k v w =
-        on-same (made (asked.Parameter k v w) (firstFault (targetFaults v w)))
+        on-same (made (asked.Parameter k v w) (targetFaults v w))
         (λ i m. onLfo t m (λ old. changeJudged t i (targetFaults v w) (OfLfo (parameterBy old k v w)))) go (whereIs modulatorTable t id)
       where
-        go : (i : ℕ) (m : Modulator) → made (asked.Parameter k v w) (firstFault (targetFaults v w)) i m ≡ onLfo t m (λ old. changeJudged t i (targetFaults v w) (OfLfo (parameterBy old k v w)))
+        go : (i : ℕ) (m : Modulator) → made (asked.Parameter k v w) (targetFaults v w) i m ≡ onLfo t m (λ old. changeJudged t i (targetFaults v w) (OfLfo (parameterBy old k v w)))
         go i (OfTweener x) = refl
         go i (OfLfo l) = refl
-
-  -- the set that the code makes of the entry it found: d is what it answers
-  pub set-at :
-      (id : ModulatorId) (a : Asked) (n : ℕ) {i k : ℕ} {b : Bool} {m new : Modulator} {d : ModulatorDone} → Lookup t id i
-      → m ≡ modulatorAt t i → b ≡ isLfo m → k ≡ refusalOf b a n → new ≡ modulatorBy m a → d ≡ settledAt t i k new → d ≡ setBy t id a n
-  unfolding setBy
-  set-at id a n {i} {k} {b} {m} {new} l read kind number by e =
-      let p : settledAt t i k new ≡ made a n i (modulatorAt t i) = rw (number, kind, by, read) in
-      rw (l .is) (e ∙ p ∙ sym (read-modulator (refusedCall modulatorTable t 7) (made a n i) t i (l .inside)))

@@ -1,3 +1,2 @@
 pub mod ModulatorTables
-pub mod Entries
 pub mod Sets

@@ -5,9 +5,10 @@ use lib.ListN.{replicate}
 use lib.Ieee.{Float}
 use Rattle.doubles.specs.Doubles.{zeroF}
 use Rattle.ids.specs.Keys.{leftAt}
-use Rattle.ids.specs.Tables.{Table, whereIs, refusedCall, onFound, changed, freed, readFound, refusedAdd, addedTo}
-use Rattle.ids.specs.declared.Found.{Found}
-use Rattle.judge.specs.Answer.{Answer}
+use Rattle.ids.specs.Tables.{Table, Added, whereIs, refusedCall, onFound, changed, freed, readFound, addedTo}
+use Rattle.ids.specs.declared.Placed.{Placed}
+use Rattle.judge.specs.Answer.{Answer, accepted, refused}
+use Rattle.judge.specs.Numbers.{«NO_SUCH»}
 use Rattle.judge.specs.Judge.{floatFaults, firstFault, decided}
 use Rattle.judge.specs.declared.Faults.{Faults}
 use Rattle.waveform.specs.Waves.{waveFaults}
@@ -27,6 +28,7 @@ use Rattle.modulator_table.specs.declared.Modulator.the-variants.{OfTwee
 use Rattle.modulator_table.specs.declared.Slot.{Slot}
 use Rattle.modulator_table.specs.declared.Modulators.{Modulators}
 use Rattle.modulator_table.specs.declared.ModulatorDone.{ModulatorDone}
+use Rattle.modulator_table.specs.declared.ModulatorNamed.{ModulatorNamed}
 use Rattle.modulator_table.specs.declared.ModulatorNamed.the-variants as named
 use Rattle.modulator_table.specs.declared.ModulatorAdded.{ModulatorAdded}
 
@@ -46,37 +48,47 @@ abbrev pub noModulators : Modulators
 noModulators = record { keys = replicate 16 (leftAt 0); slots = replicate 16 (slotOf (OfTweener (newTweener zeroF))) }
 
 -- this kind of table: what the calls of both kinds share is said in `Tables` of the crate `ids`
-abbrev pub modulatorTable : Table Modulators Slot ModulatorId ModulatorDone ModulatorAdded
+abbrev pub modulatorTable : Table Modulators Slot ModulatorId ModulatorDone
 modulatorTable = record {
   keysOf = λ t. t .keys;
   entriesOf = λ t. t .slots;
   tableOf = λ ks ss. record { keys = ks; slots = ss };
   slotIn = λ id. id .slot;
   generationIn = λ id. id .generation;
+  idAt = λ i g. record { slot = i; generation = g };
   doneAs = λ n t. record { refused = n; table = t };
-  addedAs = λ i g t. record { answer = named.Is (record { slot = i; generation = g }); table = t };
-  unaddedAs = λ n t. record { answer = named.Refused n; table = t };
 }
 
 -- ---- adding
 
-unfoldable pub putOf : Modulators → Modulator → ModulatorAdded
-putOf t m = addedTo modulatorTable t (slotOf m)
+abbrev pub toldNamed : ModulatorNamed → Answer ModulatorId
+toldNamed (named.Is id) = accepted id
+toldNamed (named.Refused n) = refused n
+
+abbrev pub toldAdded : ModulatorAdded → Added Modulators ModulatorId
+toldAdded r = record { answer = toldNamed (r .answer); table = r .table }
 
 -- a modulator with these faults
-abbrev pub addJudged : Modulators → Faults → Modulator → ModulatorAdded
-addJudged t f m = decided (firstFault f) (putOf t m) (refusedAdd modulatorTable t)
+abbrev pub putOf : Modulators → Faults → Modulator → Added Modulators ModulatorId
+putOf t f m = addedTo modulatorTable t f (slotOf m)
 
-unfoldable pub addTweenerOf : Modulators → Float → ModulatorAdded
-addTweenerOf t x = addJudged t (floatFaults x) (OfTweener (newTweener x))
+unfoldable pub addTweenerOf : Modulators → Float → Added Modulators ModulatorId
+addTweenerOf t x = putOf t (floatFaults x) (OfTweener (newTweener x))
 
-unfoldable pub addLfoOf : Modulators → LfoBuilder → ModulatorAdded
-addLfoOf t b = addJudged t (builderFaults b) (OfLfo (newLfo b))
+unfoldable pub addLfoOf : Modulators → LfoBuilder → Added Modulators ModulatorId
+addLfoOf t b = putOf t (builderFaults b) (OfLfo (newLfo b))
+
+-- by a number: the id of a place, and the slot that is stored there
+abbrev pub namedBy : Placed → Answer ModulatorId
+namedBy p = decided (p .refused) (accepted (record { slot = p .slot; generation = p .key .generation })) refused
+
+abbrev pub slotBy : ℕ → Slot → Modulator → Slot
+slotBy n s m = decided n (slotOf m) (λ _. s)
 
 -- ---- by an id
 
 -- a call on the modulator in the slot that was found
-abbrev pub onModulator : Modulators → Found → (ℕ → Modulator → ModulatorDone) → ModulatorDone
+abbrev pub onModulator : Modulators → Answer ℕ → (ℕ → Modulator → ModulatorDone) → ModulatorDone
 onModulator t w f = onFound modulatorTable t w (λ i s. f i (s .modulator))
 
 -- the modulator in slot i anew, and nothing else
@@ -93,10 +105,10 @@ removeOf t id = onModulator t (whereIs modulatorTable t id) (λ i m. freed modul
 -- NO_SUCH where the call is for the other kind: RULES, no-such
 abbrev pub onTweener : Modulators → Modulator → (Tweener → ModulatorDone) → ModulatorDone
 onTweener t (OfTweener w) f = f w
-onTweener t (OfLfo l) f = refusedCall modulatorTable t 7
+onTweener t (OfLfo l) f = refusedCall modulatorTable t «NO_SUCH»
 
 abbrev pub onLfo : Modulators → Modulator → (Lfo → ModulatorDone) → ModulatorDone
-onLfo t (OfTweener w) f = refusedCall modulatorTable t 7
+onLfo t (OfTweener w) f = refusedCall modulatorTable t «NO_SUCH»
 onLfo t (OfLfo l) f = f l
 
 unfoldable pub setTweenerOf : Modulators → ModulatorId → Float → Tween → ModulatorDone

@@ -3,18 +3,16 @@
 ghost use mathlib.Core.Path.{_≡_};
 ghost use Prim.Native.Nat.{_<_};
 ghost use Rattle.judge.specs.Answer.{toldFloat};
-ghost use Rattle.ids.specs.Tables.{whereIs};
-ghost use Rattle.modulator_table.specs.Entries.{keyedAt, storedAt, modulatorAt, putJudged, settledAt};
-ghost use Rattle.modulator_table.specs.Sets.{isLfo, refusalOf, tweenerBy, lfoBy, modulatorBy, setBy};
-ghost use Rattle.modulator_table.specs.ModulatorTables.{modulatorTable, valueOf, slotValue, noModulators, addTweenerOf, addLfoOf, removeOf, setTweenerOf, parameterBy, setParameterOf, setWaveformOf, setPhaseOf, modulatorValueOf};
-use ids::Found;
+ghost use Rattle.modulator_table.specs.Sets.{isLfo, refusalOf, tweenerBy, lfoBy, modulatorBy, changedBy, setBy};
+ghost use Rattle.modulator_table.specs.ModulatorTables.{valueOf, slotValue, noModulators, toldNamed, namedBy, slotBy, toldAdded, putOf, addTweenerOf, addLfoOf, removeOf, setTweenerOf, parameterBy, setParameterOf, setWaveformOf, setPhaseOf, modulatorValueOf};
 use ids::Key;
-use ids::NO_ROOM;
-use ids::NO_SUCH;
-use ids::Room;
+use ids::Placed;
 use ids::find;
-use ids::free;
+use ids::left;
+use ids::place;
+use judge::Faults;
 use judge::Floated;
+use judge::NO_SUCH;
 use judge::first_fault;
 use judge::float_faults;
 use modulator::lfo::Lfo;
@@ -69,6 +67,12 @@ pub struct ModulatorAdded {
     pub table: Modulators,
 }
 
+// A slot as a set leaves it, and 0 or the number of the refusal: then the slot is as it was.
+struct Changed {
+    refused: u32,
+    slot: Slot,
+}
+
 // What a set asks of one modulator. The first is for a tweener and the others are for an LFO.
 enum Asked {
     Target(f64, Tween),
@@ -111,117 +115,77 @@ pub fn no_modulators() -> Modulators
     }
 }
 
-fn keyed(t: Modulators, i: usize, key: Key) -> Modulators
-    requires { ⌜ i < 16 ⌝ }
-    ensures { λ r. ⌜ r ≡ keyedAt t i key ⌝ }
+// The id of a place, or the number of its refusal.
+fn named(p: Placed) -> ModulatorNamed
+    requires { ⌜ p .slot < 16 ⌝ }
+    ensures { λ r. ⌜ toldNamed r ≡ namedBy p ⌝ }
 {
-    let mut table = t;
-    table.keys[i] = key;
-    table
+    if p.refused != 0 {
+        return ModulatorNamed::Refused(p.refused);
+    }
+    ModulatorNamed::Is(ModulatorId {
+        slot: p.slot as u32,
+        generation: p.key.generation,
+    })
 }
 
-fn stored(t: Modulators, i: usize, m: Modulator) -> Modulators
-    requires { ⌜ i < 16 ⌝ }
-    ensures { λ r. ⌜ r ≡ storedAt t i m ⌝ }
-{
-    let mut table = t;
-    table.slots[i] = Slot { modulator: m };
-    table
-}
-
-fn place(t: Modulators, id: ModulatorId) -> Found
-    ensures { λ r. ⌜ r ≡ whereIs modulatorTable t id ⌝ }
-{
-    let keys = t.keys;
-    find(keys, id.slot, id.generation)
-}
-
-fn read(t: Modulators, i: usize) -> Modulator
-    requires { ⌜ i < 16 ⌝ }
-    ensures { λ r. ⌜ r ≡ modulatorAt t i ⌝ }
-{
-    let s = t.slots[i];
-    s.modulator
-}
-
-// Puts a modulator into the lowest free slot, unless n refuses it.
-fn put(t: Modulators, n: u32, m: Modulator) -> ModulatorAdded
-    ensures { λ r. ⌜ r ≡ putJudged t n m ⌝ }
+// A slot with a modulator, or as it was where the number n refuses it.
+fn slot_by(n: u32, s: Slot, m: Modulator) -> Slot
+    ensures { λ r. ⌜ r ≡ slotBy n s m ⌝ }
 {
     if n != 0 {
-        return ModulatorAdded {
-            answer: ModulatorNamed::Refused(n),
-            table: t,
-        };
+        return s;
     }
-    let keys = t.keys;
-    let Room::At(i, generation) = free(keys) else {
-        return ModulatorAdded {
-            answer: ModulatorNamed::Refused(NO_ROOM),
-            table: t,
-        };
-    };
-    let key = Key {
-        used: true,
-        generation,
-    };
-    let id = ModulatorId {
-        slot: i as u32,
-        generation,
-    };
+    Slot { modulator: m }
+}
+
+// Puts a modulator into the lowest free slot, unless its arguments have faults. Whatever becomes of a call, the table
+// is stored to once and goes out by one exit, as that of the clocks is.
+fn put(t: Modulators, f: Faults, m: Modulator) -> ModulatorAdded
+    ensures { λ r. ⌜ toldAdded r ≡ putOf t f m ⌝ }
+{
+    let mut table = t;
+    let keys = table.keys;
+    let p = place(keys, first_fault(f));
+    let i = p.slot;
+    let key = p.key;
+    let s = table.slots[i];
+    table.keys[i] = key;
+    table.slots[i] = slot_by(p.refused, s, m);
     ModulatorAdded {
-        answer: ModulatorNamed::Is(id),
-        table: stored(keyed(t, i, key), i, m),
+        answer: named(p),
+        table,
     }
 }
 
 pub fn add_tweener(t: Modulators, value: f64) -> ModulatorAdded
-    ensures { λ r. ⌜ r ≡ addTweenerOf t value ⌝ }
+    ensures { λ r. ⌜ toldAdded r ≡ addTweenerOf t value ⌝ }
 {
-    let n = first_fault(float_faults(value));
-    put(t, n, Modulator::OfTweener(new_tweener(value)))
+    put(
+        t,
+        float_faults(value),
+        Modulator::OfTweener(new_tweener(value)),
+    )
 }
 
 pub fn add_lfo(t: Modulators, b: LfoBuilder) -> ModulatorAdded
-    ensures { λ r. ⌜ r ≡ addLfoOf t b ⌝ }
+    ensures { λ r. ⌜ toldAdded r ≡ addLfoOf t b ⌝ }
 {
-    let n = first_fault(builder_faults(b));
-    put(t, n, Modulator::OfLfo(new_lfo(b)))
+    put(t, builder_faults(b), Modulator::OfLfo(new_lfo(b)))
 }
 
 pub fn remove_modulator(t: Modulators, id: ModulatorId) -> ModulatorDone
     ensures { λ r. ⌜ r ≡ removeOf t id ⌝ }
 {
-    let Found::At(i) = place(t, id) else {
-        return ModulatorDone {
-            refused: NO_SUCH,
-            table: t,
-        };
-    };
-    let key = Key {
-        used: false,
-        generation: id.generation,
-    };
+    let mut table = t;
+    let keys = table.keys;
+    let found = find(keys, id.slot, id.generation);
+    let i = found.slot;
+    let key = keys[i];
+    table.keys[i] = left(found.refused, key, id.generation);
     ModulatorDone {
-        refused: 0,
-        table: keyed(t, i, key),
-    }
-}
-
-// The modulator of slot i anew, unless n refuses the call.
-fn settled(t: Modulators, i: usize, n: u32, m: Modulator) -> ModulatorDone
-    requires { ⌜ i < 16 ⌝ }
-    ensures { λ r. ⌜ r ≡ settledAt t i n m ⌝ }
-{
-    if n != 0 {
-        return ModulatorDone {
-            refused: n,
-            table: t,
-        };
-    }
-    ModulatorDone {
-        refused: 0,
-        table: stored(t, i, m),
+        refused: found.refused,
+        table,
     }
 }
 
@@ -305,25 +269,57 @@ fn modulator_by(m: Modulator, asked: Asked) -> Modulator
     }
 }
 
-// A set, where n is the number of its first fault.
-fn set(t: Modulators, id: ModulatorId, asked: Asked, n: u32) -> ModulatorDone
-    ensures { λ r. ⌜ r ≡ setBy t id asked n ⌝ }
+// A slot after a set: as it was, where the set is refused, by the number of the lookup, by its kind, or by the number n
+// of its arguments.
+fn set_by(found: u32, s: Slot, asked: Asked, n: u32) -> Changed
+    ensures { λ r. ⌜ r ≡ changedBy found s asked n ⌝ }
 {
-    let Found::At(i) = place(t, id) else {
-        return ModulatorDone {
-            refused: NO_SUCH,
-            table: t,
+    if found != 0 {
+        return Changed {
+            refused: found,
+            slot: s,
         };
-    };
-    let m = read(t, i);
-    settled(t, i, refusal(is_lfo(m), asked, n), modulator_by(m, asked))
+    }
+    let m = s.modulator;
+    let refused = refusal(is_lfo(m), asked, n);
+    if refused != 0 {
+        return Changed { refused, slot: s };
+    }
+    Changed {
+        refused: 0,
+        slot: Slot {
+            modulator: modulator_by(m, asked),
+        },
+    }
+}
+
+// A set with these faults.
+fn set(t: Modulators, id: ModulatorId, asked: Asked, f: Faults) -> ModulatorDone
+    ensures { λ r. ⌜ r ≡ setBy t id asked f ⌝ }
+{
+    let mut table = t;
+    let keys = table.keys;
+    let found = find(keys, id.slot, id.generation);
+    let i = found.slot;
+    let s = table.slots[i];
+    let c = set_by(found.refused, s, asked, first_fault(f));
+    let slot = c.slot;
+    table.slots[i] = slot;
+    ModulatorDone {
+        refused: c.refused,
+        table,
+    }
 }
 
 pub fn set_tweener(t: Modulators, id: ModulatorId, target: f64, tween: Tween) -> ModulatorDone
     ensures { λ r. ⌜ r ≡ setTweenerOf t id target tween ⌝ }
 {
-    let n = first_fault(tweener_faults(target, tween));
-    set(t, id, Asked::Target(target, tween), n)
+    set(
+        t,
+        id,
+        Asked::Target(target, tween),
+        tweener_faults(target, tween),
+    )
 }
 
 // Sets an LFO's frequency, amplitude or offset.
@@ -336,29 +332,35 @@ pub fn set_parameter(
 ) -> ModulatorDone
     ensures { λ r. ⌜ r ≡ setParameterOf t id which target tween ⌝ }
 {
-    let n = first_fault(target_faults(target, tween));
-    set(t, id, Asked::Parameter(which, target, tween), n)
+    set(
+        t,
+        id,
+        Asked::Parameter(which, target, tween),
+        target_faults(target, tween),
+    )
 }
 
 pub fn set_waveform(t: Modulators, id: ModulatorId, waveform: Waveform) -> ModulatorDone
     ensures { λ r. ⌜ r ≡ setWaveformOf t id waveform ⌝ }
 {
-    let n = first_fault(wave_faults(waveform));
-    set(t, id, Asked::Wave(waveform), n)
+    set(t, id, Asked::Wave(waveform), wave_faults(waveform))
 }
 
 pub fn set_phase(t: Modulators, id: ModulatorId, radians: f64) -> ModulatorDone
     ensures { λ r. ⌜ r ≡ setPhaseOf t id radians ⌝ }
 {
-    let n = first_fault(float_faults(radians));
-    set(t, id, Asked::Phase(radians), n)
+    set(t, id, Asked::Phase(radians), float_faults(radians))
 }
 
 pub fn modulator_value(t: Modulators, id: ModulatorId) -> Floated
     ensures { λ r. ⌜ toldFloat r ≡ modulatorValueOf t id ⌝ }
 {
-    let Found::At(i) = place(t, id) else {
-        return Floated::Refused(NO_SUCH);
-    };
-    Floated::Is(value(read(t, i)))
+    let keys = t.keys;
+    let found = find(keys, id.slot, id.generation);
+    if found.refused != 0 {
+        return Floated::Refused(found.refused);
+    }
+    let i = found.slot;
+    let s = t.slots[i];
+    Floated::Is(slot_value(s))
 }

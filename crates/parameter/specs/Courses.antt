@@ -5,7 +5,8 @@ use mathlib.Core.Bool.{Bool, true, false, cond}
 use lib.Dec.{eqb}
 use lib.Ieee.{Float, binary64, add, le}
 use Rattle.doubles.specs.Doubles.{zeroF}
-use Rattle.times.specs.Durations.{nanosOf, secondsOf}
+use Rattle.times.specs.Durations.{secondsOf}
+use Rattle.times.specs.Starts.{shorterBy}
 use Rattle.times.specs.declared.start_time.StartTime.{StartTime}
 use Rattle.times.specs.declared.start_time.StartTime.the-variants.{Immediate, Delayed, At}
 use Rattle.times.specs.declared.start_time.When.{When}
@@ -31,14 +32,11 @@ startedOf Immediate w = true
 startedOf (Delayed n) w = eqb n 0
 startedOf (At t) w = isNow w
 
--- less of a delay, down to 0, which a difference of ℕ never passes: RULES, delay-update
-abbrev pub shorterOf : ℕ → ℕ → StartTime
-shorterOf n gone = Delayed (n - gone)
-
--- a start that did not pass; a clock time stays, though its clock may never come: RULES, wait
+-- a start that did not pass: a delay is shorter, and a clock time stays, though its clock may never come:
+-- RULES, delay-update and wait
 abbrev pub waitedOf : StartTime → Float → StartTime
 waitedOf Immediate dt = Immediate
-waitedOf (Delayed n) dt = shorterOf n (nanosOf dt)
+waitedOf (Delayed n) dt = Delayed (shorterBy dt n)
 waitedOf (At t) dt = At t
 
 -- a course that waits on: its time stands

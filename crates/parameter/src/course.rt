@@ -1,10 +1,10 @@
 // The timing of a tween under way: what parameters of both kinds and tweeners share.
 ghost use mathlib.Core.Path.{_≡_};
-ghost use Rattle.parameter.specs.Courses.{newCourse, isNow, startedOf, shorterOf, waitedOf, stepOf, amountAt};
+ghost use Rattle.parameter.specs.Courses.{newCourse, isNow, startedOf, waitedOf, stepOf, amountAt};
 use times::duration::as_secs_f64;
-use times::duration::nanos;
 use times::start_time::StartTime;
 use times::start_time::When;
+use times::start_time::shorter;
 use times::tween::Tween;
 use times::tween::tween_value;
 
@@ -49,23 +49,14 @@ pub fn started(start: StartTime, when: When) -> bool
     }
 }
 
-// A delay with some of it gone. It stays a delay at 0, and passes the test of the update after: RULES, delay-at-zero.
-fn shorter(ns: u64, gone: u64) -> StartTime
-    ensures { λ r. ⌜ r ≡ shorterOf ns gone ⌝ }
-{
-    if gone < ns {
-        return StartTime::Delayed(ns - gone);
-    }
-    StartTime::Delayed(0)
-}
-
-// A start that did not pass the test, after dt.
+// A start that did not pass the test, after dt. A delay stays one at 0, and passes the test of the update after:
+// RULES, delay-at-zero.
 fn waited(start: StartTime, dt: f64) -> StartTime
     ensures { λ r. ⌜ r ≡ waitedOf start dt ⌝ }
 {
     match start {
         StartTime::Immediate => StartTime::Immediate,
-        StartTime::Delayed(ns) => shorter(ns, nanos(dt)),
+        StartTime::Delayed(ns) => StartTime::Delayed(shorter(ns, dt)),
         StartTime::At(t) => StartTime::At(t),
     }
 }

@@ -5,10 +5,8 @@ use denote.Ref.{now}
 use Rattle.digits.proofs.Outcomes.{Same, same}
 use Rattle.replies.proofs.ok.Reads as ok
 use Rattle.replies.proofs.ok.Kinds as ok-kinds
-use Rattle.replies.proofs.clock.Reads as clock
-use Rattle.replies.proofs.clock.Kinds as clock-kinds
-use Rattle.replies.proofs.modulator.Reads as modulator
-use Rattle.replies.proofs.modulator.Kinds as modulator-kinds
+use Rattle.replies.proofs.answer.Reads as answer
+use Rattle.replies.proofs.answer.Kinds as answer-kinds
 use Rattle.replies.proofs.frame.Reads as frame
 use Rattle.replies.proofs.frame.Kinds as frame-kinds
 use Rattle.replies.proofs.show.Reads as show
@@ -19,11 +17,8 @@ use Rattle.replies.proofs.report.Kinds as report-kinds
 pub one-ok : Same 1 ok-kinds.ps ok-kinds.r ok.Post (λ κs s. now (s .0))
 one-ok κs a x y s t = same
 
-pub one-clock : Same 1 clock-kinds.ps clock-kinds.r clock.Post (λ κs s. now (s .0))
-one-clock κs a x y s t = same
-
-pub one-modulator : Same 1 modulator-kinds.ps modulator-kinds.r modulator.Post (λ κs s. now (s .0))
-one-modulator κs a x y s t = same
+pub one-answer : Same 1 answer-kinds.ps answer-kinds.r answer.Post (λ κs s. now (s .0))
+one-answer κs a x y s t = same
 
 pub one-frame : Same 1 frame-kinds.ps frame-kinds.r frame.Post (λ κs s. now (s .0))
 one-frame κs a x y s t = same

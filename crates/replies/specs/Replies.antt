@@ -9,10 +9,8 @@ use Rattle.report.specs.declared.Filled.{Filled}
 use Rattle.report.specs.declared.Filled.the-variants as report
 use Rattle.answers.specs.Answers.{blank, idText, speedText, timeText, refusedText}
 use Rattle.digits.specs.Digits.{numberText, flagText, floatText}
-use Rattle.commands.specs.declared.clock_command.ClockAnswer.{ClockAnswer}
-use Rattle.commands.specs.declared.clock_command.ClockAnswer.the-variants as clock
-use Rattle.commands.specs.declared.modulator_command.ModulatorAnswer.{ModulatorAnswer}
-use Rattle.commands.specs.declared.modulator_command.ModulatorAnswer.the-variants as modulator
+use Rattle.commands.specs.declared.CallAnswer.{CallAnswer}
+use Rattle.commands.specs.declared.CallAnswer.the-variants as answer
 
 -- "ok"
 abbrev pub okText : List (List ℕ)
@@ -22,21 +20,16 @@ okText = (0x6f ∷ 0x6b ∷ []) ∷ []
 abbrev pub idReply : ℕ → ℕ → List (List ℕ)
 idReply slot generation = (0x69 ∷ 0x64 ∷ blank) ∷ idText slot generation
 
--- "`ok`", "`id ID`", "`N F`", "`0` or `1`", "`SPEED`"
-abbrev pub clockText : ClockAnswer → List (List ℕ)
-clockText clock.Done = okText
-clockText (clock.Id i) = idReply (i .slot) (i .generation)
-clockText (clock.Time t) = timeText t
-clockText (clock.Flag b) = flagText b ∷ []
-clockText (clock.Speed s) = speedText s
-clockText (clock.Refused n) = refusedText n
-
--- "`ok`", "`id ID`", "`F`"
-abbrev pub modulatorText : ModulatorAnswer → List (List ℕ)
-modulatorText modulator.Done = okText
-modulatorText (modulator.Id i) = idReply (i .slot) (i .generation)
-modulatorText (modulator.Value x) = floatText x ∷ []
-modulatorText (modulator.Refused n) = refusedText n
+-- "`ok`", "`id ID`", "`N F`", "`0` or `1`", "`SPEED`", "`F`"
+abbrev pub answerText : CallAnswer → List (List ℕ)
+answerText answer.Done = okText
+answerText (answer.Clock i) = idReply (i .slot) (i .generation)
+answerText (answer.Modulator i) = idReply (i .slot) (i .generation)
+answerText (answer.Time t) = timeText t
+answerText (answer.Flag b) = flagText b ∷ []
+answerText (answer.Speed s) = speedText s
+answerText (answer.Value x) = floatText x ∷ []
+answerText (answer.Refused n) = refusedText n
 
 -- "=" and "-"
 abbrev pub equalsSign : List ℕ

@@ -2,10 +2,9 @@
 ghost use mathlib.Core.Path.{_≡_};
 ghost use mathlib.Core.List.{map};
 ghost use Rattle.digits.specs.Puts.{place, putAll, lineOf};
-ghost use Rattle.replies.specs.Replies.{okText, idReply, clockText, modulatorText, tickText, frameText, shownOf, reportedText};
+ghost use Rattle.replies.specs.Replies.{okText, idReply, answerText, tickText, frameText, shownOf, reportedText};
 use clock::Reported;
-use commands::clock_command::ClockAnswer;
-use commands::modulator_command::ModulatorAnswer;
+use commands::CallAnswer;
 use ids::Key;
 use report::Filled;
 
@@ -26,39 +25,31 @@ fn id(out: &mut [u8], slot: u32, generation: u32) -> usize
     digits::end(out, b)
 }
 
-pub fn clock(out: &mut [u8], answer: ClockAnswer) -> usize
-    ensures { λ r. ⌜ place (now (out .exit)) r ≡ putAll (place (now (out .entry)) 0) (lineOf (clockText answer)) ⌝ }
+// What a call on the station answers.
+pub fn answer(out: &mut [u8], told: CallAnswer) -> usize
+    ensures { λ r. ⌜ place (now (out .exit)) r ≡ putAll (place (now (out .entry)) 0) (lineOf (answerText told)) ⌝ }
 {
-    match answer {
-        ClockAnswer::Done => ok(out),
-        ClockAnswer::Id(i) => id(out, i.slot, i.generation),
-        ClockAnswer::Time(t) => {
+    match told {
+        CallAnswer::Done => ok(out),
+        CallAnswer::Clock(i) => id(out, i.slot, i.generation),
+        CallAnswer::Modulator(i) => id(out, i.slot, i.generation),
+        CallAnswer::Time(t) => {
             let at = answers::time(out, 0, t);
             digits::end(out, at)
         }
-        ClockAnswer::Flag(b) => {
+        CallAnswer::Flag(b) => {
             let at = digits::flag(out, 0, b);
             digits::end(out, at)
         }
-        ClockAnswer::Speed(s) => {
+        CallAnswer::Speed(s) => {
             let at = answers::speed(out, 0, s);
             digits::end(out, at)
         }
-        ClockAnswer::Refused(n) => answers::refused(out, n),
-    }
-}
-
-pub fn modulator(out: &mut [u8], answer: ModulatorAnswer) -> usize
-    ensures { λ r. ⌜ place (now (out .exit)) r ≡ putAll (place (now (out .entry)) 0) (lineOf (modulatorText answer)) ⌝ }
-{
-    match answer {
-        ModulatorAnswer::Done => ok(out),
-        ModulatorAnswer::Id(i) => id(out, i.slot, i.generation),
-        ModulatorAnswer::Value(x) => {
+        CallAnswer::Value(x) => {
             let at = digits::float(out, 0, x);
             digits::end(out, at)
         }
-        ModulatorAnswer::Refused(n) => answers::refused(out, n),
+        CallAnswer::Refused(n) => answers::refused(out, n),
     }
 }
 

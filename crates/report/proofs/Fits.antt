@@ -13,6 +13,8 @@ use Rattle.digits.specs.Puts.{Put, place, putAll, whole}
 use Rattle.digits.proofs.Room.{room}
 use Rattle.digits.proofs.Pieces.{whole-fits}
 use Rattle.judge.specs.Answer.{accepted}
+use Rattle.judge.specs.Judge.{numberOf}
+use Rattle.judge.specs.Numbers.{«BUFFER»}
 use Rattle.times.specs.declared.time.ClockId.{ClockId}
 use Rattle.clock.specs.OneClock.{positionOf, freshOf}
 use Rattle.clock.specs.declared.Clock.{Clock}
@@ -32,12 +34,14 @@ module _ (id : ClockId) (c : Clock) (out : List ℕ) where
   texts = reportLines id (c .ticking) (not (freshOf (c .state))) (positionOf (c .state))
 
   -- BUFFER
-  pub too-small : length out < 96 → reported (Refused 11) out ≡ intoBuffer out (accepted (reportText id c))
+  pub too-small : length out < 96 → reported (Refused «BUFFER») out ≡ intoBuffer out (accepted (reportText id c))
+  unfolding numberOf
   too-small h = rw (lt-ltb (length out) 96 h)
 
   pub written :
       {o : List ℕ} {n : ℕ} → id .slot < 16 → 96 ≤ length out → id .generation < 2 ^ 32 → positionOf (c .state) .ticks < 2 ^ 64
       → place o n ≡ putAll (place out 0) texts → reported (Written n) o ≡ intoBuffer out (accepted (reportText id c))
+  unfolding numberOf
   written s h g k e =
       ap (λ (p : Put). reported (Written (p .at)) (p .out)) (e ∙ at-start texts out (omega (arith, longest id c s g k)))
       ∙ rw (le-ltb (length out) 96 h)

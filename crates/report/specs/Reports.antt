@@ -1,7 +1,7 @@
 -- A clock's report: six lines at the start of a buffer that the caller lends. 01, "Worked rows"; RULES, report. Assumes
 -- nothing.
 use Prim.Native.Nat.{ℕ}
-use mathlib.Core.Bool.{Bool, not, cond}
+use mathlib.Core.Bool.{Bool, false, not}
 use mathlib.Core.List.{List, [], _∷_, _++_}
 use lib.Dec.{ltb}
 use lib.ListN.{length, drop}
@@ -9,6 +9,7 @@ use Rattle.digits.specs.Digits.{numberText, flagText, floatText}
 use Rattle.digits.specs.Puts.{whole, lineEnd}
 use Rattle.ticks.specs.declared.Position.{Position}
 use Rattle.judge.specs.Answer.{Answer, accepted, refused}
+use Rattle.judge.specs.Judge.{ofReport, numberOf, decided}
 use Rattle.times.specs.declared.time.ClockId.{ClockId}
 use Rattle.clock.specs.OneClock.{positionOf, freshOf}
 use Rattle.ids.specs.Tables.{whereIs, readFound}
@@ -77,10 +78,14 @@ unchanged n out = record { answer = refused n; out = out }
 abbrev pub atStart : List ℕ → List ℕ → Outcome
 atStart text out = record { answer = accepted (length text); out = text ++ drop (length text) out }
 
--- 7 where there is no such clock; then 11 where the buffer is short: RULES, no-such and short-buffer
+-- the longest report has 96 bytes: RULES, short-buffer
+abbrev pub tooShort : List ℕ → Bool
+tooShort out = ltb (length out) 96
+
+-- the number of the lookup, where there is no such clock; then BUFFER: RULES, no-such and order
 abbrev pub intoBuffer : List ℕ → Answer (List ℕ) → Outcome
 intoBuffer out (refused n) = unchanged n out
-intoBuffer out (accepted text) = cond (ltb (length out) 96) (unchanged 11 out) (atStart text out)
+intoBuffer out (accepted text) = decided (numberOf (ofReport false (tooShort out))) (atStart text out) (λ n. unchanged n out)
 
 unfoldable pub reportOf : Clocks → ClockId → List ℕ → Outcome
 reportOf t id out = intoBuffer out (readFound clockTable t (whereIs clockTable t id) (reportText id))

@@ -14,10 +14,9 @@ use clock::position;
 use clock_table::Clocks;
 use clock_table::Looked;
 use clock_table::look;
+use judge::BUFFER;
 use ticks::Position;
 use times::time::ClockId;
-
-pub const BUFFER: u32 = 11;
 
 // The longest report, and so the least buffer.
 const LONGEST: usize = 96;

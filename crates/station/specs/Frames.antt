@@ -6,13 +6,13 @@ use lib.ListN.{replicate, set}
 use lib.Ieee.{Float}
 use Rattle.ids.specs.Lists.{readAt}
 use Rattle.ids.specs.declared.Key.{Key}
+use Rattle.judge.specs.Answer.{Answer, accepted, refused}
 use Rattle.judge.specs.Judge.{dtFaults, firstFault, decided}
 use Rattle.info.specs.declared.info.Info.{Info}
 use Rattle.clock.specs.OneClock.{infoOf, noReport}
 use Rattle.clock.specs.declared.Clock.{Clock}
 use Rattle.clock.specs.declared.Reported.{Reported}
-use Rattle.clock.specs.declared.Moved.{Moved}
-use Rattle.clock.specs.declared.Moved.the-variants.{Is, Refused}
+use Rattle.clock.specs.declared.Ticked.{Ticked}
 use Rattle.clock_table.specs.declared.Clocks.{Clocks}
 use Rattle.modulator_table.specs.ModulatorTables.{slotOf, slotValue}
 use Rattle.modulator_table.specs.declared.Slot.{Slot}
@@ -61,9 +61,9 @@ pub data Try : Type 0 where
 abbrev pub watching : Info → List Clock → Info
 watching info cs = record { «clock_keys» = info .«clock_keys»; clocks = map infoOf cs; «modulator_keys» = info .«modulator_keys»; values = info .values }
 
-abbrev pub placed : ℕ → List Clock → List Reported → Moved → Try
-placed i cs rs (Is t) = went (set cs i (t .clock)) (set rs i (t .report))
-placed i cs rs (Refused n) = stopped n
+abbrev pub placed : ℕ → List Clock → List Reported → Answer Ticked → Try
+placed i cs rs (accepted t) = went (set cs i (t .clock)) (set rs i (t .report))
+placed i cs rs (refused n) = stopped n
 
 -- the turn of slot i, where it is occupied
 abbrev pub clockTurn : Info → Float → List Key → ℕ → List Clock → List Reported → Try

@@ -1,5 +1,6 @@
 -- Document 01, "Frame (added)": one slot's turn, with what it sees. Assumes nothing.
 use lib.Ieee.{Float}
+use Rattle.judge.specs.Answer.{Answer}
 use Rattle.times.specs.declared.start_time.When.{When}
 use Rattle.times.specs.declared.start_time.When.the-variants.{Later}
 use Rattle.parameter.specs.declared.float.FloatParameter.{FloatParameter}
@@ -7,7 +8,7 @@ use Rattle.info.specs.ParametersIn.{courseDueOf, floatDueOf, floatSourceOf, spe
 use Rattle.info.specs.declared.info.Info.{Info}
 use Rattle.clock.specs.OneClock.{updateClockOf}
 use Rattle.clock.specs.declared.Clock.{Clock}
-use Rattle.clock.specs.declared.Moved.{Moved}
+use Rattle.clock.specs.declared.Ticked.{Ticked}
 use Rattle.modulator.specs.Tweeners.{updateTweenerOf}
 use Rattle.modulator.specs.Lfos.{updateLfoOf}
 use Rattle.modulator.specs.declared.tweener.Tweener.{Tweener}
@@ -43,5 +44,5 @@ turnModulator info (OfLfo l) dt = OfLfo (turnLfo info l dt)
 abbrev pub turnSlot : Info → Slot → Float → Slot
 turnSlot info s dt = slotOf (turnModulator info (s .modulator) dt)
 
-unfoldable pub turnClock : Info → Clock → Float → Moved
+unfoldable pub turnClock : Info → Clock → Float → Answer Ticked
 turnClock info c dt = updateClockOf c dt (speedDueOf info (c .speed)) (speedSourceOf info (c .speed))

@@ -1,5 +1,6 @@
 // One modulator's turn of a frame, and one clock's, with what it sees.
 ghost use mathlib.Core.Path.{_≡_};
+ghost use Rattle.clock.specs.OneClock.{toldMoved};
 ghost use Rattle.station.specs.Turns.{tweenerDue, sightOf, turnLfo, turnModulator, turnSlot, turnClock};
 use clock::Clock;
 use clock::Moved;
@@ -81,7 +82,7 @@ pub fn turn_slot(info: Info, s: Slot, dt: f64) -> Slot
 }
 
 pub fn turn_clock(info: Info, c: Clock, dt: f64) -> Moved
-    ensures { λ r. ⌜ r ≡ turnClock info c dt ⌝ }
+    ensures { λ r. ⌜ toldMoved r ≡ turnClock info c dt ⌝ }
 {
     let p = c.speed;
     update_clock(c, dt, speed_due(info, p), speed_source(info, p))

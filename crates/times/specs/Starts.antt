@@ -4,8 +4,9 @@ use mathlib.Core.Bool.{Bool, true, false, cond}
 use lib.Dec.{eqb}
 use lib.Ieee.{Float}
 use Rattle.judge.specs.Answer.{Answer, accepted, refused}
-use Rattle.judge.specs.Judge.{noFaults, bothFaults, dtFaults, fractionFaults, spanFaults, judged}
+use Rattle.judge.specs.Judge.{noFaults, bothFaults, dtFaults, spanFaults, judged}
 use Rattle.times.specs.Durations.{nanosOf}
+use Rattle.times.specs.Times.{clockTimeFaults}
 use Rattle.judge.specs.declared.Faults.{Faults}
 use Rattle.times.specs.declared.time.ClockTime.{ClockTime}
 use Rattle.times.specs.declared.start_time.StartTime.{StartTime}
@@ -16,11 +17,15 @@ use Rattle.times.specs.declared.start_time.Waited.{Waited}
 use Rattle.times.specs.declared.start_time.StartUp.{StartUp}
 use Rattle.times.specs.declared.start_time.StartUp.the-variants.{Is, Refused}
 
--- a delay is judged as a duration is, and a clock time by its fraction: RULES, start-time
+-- a delay is judged as a duration is, and a clock time as everywhere: RULES, start-time
 abbrev pub startFaults : StartTime → Faults
 startFaults Immediate = noFaults
 startFaults (Delayed n) = spanFaults n
-startFaults (At t) = fractionFaults (t .fraction)
+startFaults (At t) = clockTimeFaults t
+
+-- a delay loses the nanoseconds of dt and stops at 0, which a difference of ℕ never passes: RULES, delay-update
+abbrev pub shorterBy : Float → ℕ → ℕ
+shorterBy dt n = n - nanosOf dt
 
 -- what is left of a delay, Immediate at once where nothing is: RULES, delay-update
 abbrev pub delayOf : ℕ → StartTime
@@ -35,10 +40,9 @@ awaitedOf t Now = waiting false Immediate
 awaitedOf t Later = waiting false (At t)
 awaitedOf t Never = waiting true (At t)
 
--- a delay loses the nanoseconds of dt and stops at 0, which a difference of ℕ never passes: RULES, delay-update
 unfoldable pub updateOf : StartTime → Float → When → Waited
 updateOf Immediate dt w = waiting false Immediate
-updateOf (Delayed n) dt w = waiting false (delayOf (n - nanosOf dt))
+updateOf (Delayed n) dt w = waiting false (delayOf (shorterBy dt n))
 updateOf (At t) dt w = awaitedOf t w
 
 unfoldable pub tryUpdateOf : StartTime → Float → When → Answer Waited

@@ -1,15 +1,14 @@
 -- Document 01, "clock/time.rs": a time is its clock, whole ticks and a fraction: RULES, clock-time. How it is made,
 -- moved and compared. Nothing here calls itself. Assumes nothing.
-use Prim.Native.Nat.{ℕ, _-_, compare, Ordering, Ordering·lt, Ordering·eq, Ordering·gt}
-use mathlib.Core.Bool.{_&&_, cond}
+use Prim.Native.Nat.{ℕ, _+_, _-_, compare, Ordering, Ordering·lt, Ordering·eq, Ordering·gt}
+use mathlib.Core.Bool.{Bool, false, _&&_, cond}
 use lib.Dec.{ltb, eqb}
 use lib.Ieee.{Float, binary64, add, sub, neg, rem, lt, eq, toUnsigned}
 use Rattle.doubles.specs.Doubles.{signOf, wholeOf, fractOf, ceilOf, zeroF, oneF}
 use Rattle.ticks.specs.WholeTicks.{moreOf}
-use Rattle.ticks.specs.declared.Counted.{Counted}
-use Rattle.ticks.specs.declared.Counted.the-variants.{Are, Full}
-use Rattle.judge.specs.Answer.{Answer, accepted, refused}
-use Rattle.judge.specs.Judge.{bothFaults, floatFaults, fractionFaults, timeFaults, judged}
+use Rattle.judge.specs.Answer.{Answer, accepted, refused, isRefused}
+use Rattle.judge.specs.Judge.{ofShift, bothFaults, floatFaults, fractionFaults, timeFaults, answered, judged}
+use Rattle.judge.specs.declared.Faults.{Faults}
 use Rattle.times.specs.declared.time.ClockId.{ClockId}
 use Rattle.times.specs.declared.time.ClockTime.{ClockTime}
 use Rattle.times.specs.declared.time.Timed.{Timed}
@@ -27,49 +26,57 @@ abbrev pub toldOrder : Compared → Answer Order
 toldOrder (compared.Is o) = accepted o
 toldOrder (compared.Refused n) = refused n
 
+-- a time of a clock; every one is made so: RULES, clock-time
+abbrev pub timeAt : ClockId → ℕ → Float → ClockTime
+timeAt c n f = record { clock = c; ticks = n; fraction = f }
+
+-- what is wrong with a time, wherever one is given: RULES, bad-time
+abbrev pub clockTimeFaults : ClockTime → Faults
+clockTimeFaults t = fractionFaults (t .fraction)
+
 -- whole ticks, and no fraction: RULES, time-from-ticks
 abbrev pub fromTicksOf : ClockId → ℕ → ClockTime
-fromTicksOf c n = record { clock = c; ticks = n; fraction = zeroF }
+fromTicksOf c n = timeAt c n zeroF
 
 -- the whole part as ticks, the rest as fraction; BAD_TIME for a minus sign: RULES, time-from-double and whole-number
 unfoldable pub tryFromFloatOf : ClockId → Float → Answer ClockTime
-tryFromFloatOf c x = judged (bothFaults (floatFaults x) (timeFaults (signOf x))) (accepted (record { clock = c; ticks = toUnsigned 64 x; fraction = fractOf x }))
+tryFromFloatOf c x = judged (bothFaults (floatFaults x) (timeFaults (signOf x))) (accepted (timeAt c (toUnsigned 64 x) (fractOf x)))
 
--- the same clock, at a count of ticks and the fraction f; TICKS_FULL where there is none: RULES, ticks-full
-abbrev pub atCount : ClockTime → Float → Counted → Answer ClockTime
-atCount t f Full = refused 10
-atCount t f (Are n) = accepted (record { clock = t .clock; ticks = n; fraction = f })
+-- TICKS_FULL, for k ticks on top of n: RULES, ticks-full
+abbrev pub tooMany : ℕ → ℕ → Bool
+tooMany n k = isRefused (moreOf n k)
 
 -- the fraction stays: RULES, add-ticks
 unfoldable pub tryAddTicksOf : ClockTime → ℕ → Answer ClockTime
-tryAddTicksOf t n = judged (fractionFaults (t .fraction)) (atCount t (t .fraction) (moreOf (t .ticks) n))
+tryAddTicksOf t n = answered (ofShift (clockTimeFaults t) (tooMany (t .ticks) n) false) (timeAt (t .clock) (t .ticks + n) (t .fraction))
 
 -- the fraction stays; BEFORE_ZERO where the time holds fewer ticks: RULES, subtract-ticks and before-zero
 unfoldable pub trySubTicksOf : ClockTime → ℕ → Answer ClockTime
-trySubTicksOf t n =
-    judged (fractionFaults (t .fraction))
-    (cond (ltb (t .ticks) n) (refused 12) (accepted (record { clock = t .clock; ticks = t .ticks - n; fraction = t .fraction })))
+trySubTicksOf t n = answered (ofShift (clockTimeFaults t) false (ltb (t .ticks) n)) (timeAt (t .clock) (t .ticks - n) (t .fraction))
 
--- an answer, judged by a time and an amount
-abbrev pub shiftJudged : ClockTime → Float → Answer ClockTime → Answer ClockTime
-shiftJudged t x = judged (bothFaults (floatFaults x) (fractionFaults (t .fraction)))
+-- what is wrong with a time and an amount
+abbrev pub shiftFaults : ClockTime → Float → Faults
+shiftFaults t x = bothFaults (floatFaults x) (clockTimeFaults t)
+
+-- the whole ticks of an amount on top of a time's fraction: RULES, add-double
+abbrev pub ticksMore : ClockTime → Float → ℕ
+ticksMore t x = toUnsigned 64 (wholeOf (add binary64 (t .fraction) x))
 
 -- the amount joins the fraction; the whole part of that goes to the ticks: RULES, add-double
 unfoldable pub laterOf : ClockTime → Float → Answer ClockTime
 laterOf t x =
-    shiftJudged t x
-    (atCount t (fractOf (add binary64 (t .fraction) x)) (moreOf (t .ticks) (toUnsigned 64 (wholeOf (add binary64 (t .fraction) x)))))
+    answered (ofShift (shiftFaults t x) (tooMany (t .ticks) (ticksMore t x)) false)
+    (timeAt (t .clock) (t .ticks + ticksMore t x) (fractOf (add binary64 (t .fraction) x)))
 
 -- the amount leaves the fraction, which is brought back into 0..1; the ticks lose what is more than the fraction,
 -- rounded up, and stop at 0, as a difference of ℕ does: RULES, subtract-double
+abbrev pub subtracted : ClockTime → Float → ClockTime
+subtracted t x =
+    timeAt (t .clock) (t .ticks - toUnsigned 64 (ceilOf (sub binary64 x (t .fraction))))
+    (rem binary64 (add binary64 (fractOf (sub binary64 (t .fraction) x)) oneF) oneF)
+
 unfoldable pub earlierOf : ClockTime → Float → Answer ClockTime
-earlierOf t x =
-    shiftJudged t x
-    (accepted (record {
-      clock = t .clock;
-      ticks = t .ticks - toUnsigned 64 (ceilOf (sub binary64 x (t .fraction)));
-      fraction = rem binary64 (add binary64 (fractOf (sub binary64 (t .fraction) x)) oneF) oneF;
-    }))
+earlierOf t x = answered (ofShift (shiftFaults t x) false false) (subtracted t x)
 
 -- an amount with a minus sign goes the other way by its opposite, -0.0 too: RULES, opposite
 unfoldable pub tryAddFloatOf : ClockTime → Float → Answer ClockTime
@@ -96,4 +103,4 @@ orderOf a b =
     Unordered
 
 unfoldable pub tryOrderOf : ClockTime → ClockTime → Answer Order
-tryOrderOf a b = judged (bothFaults (fractionFaults (a .fraction)) (fractionFaults (b .fraction))) (accepted (orderOf a b))
+tryOrderOf a b = judged (bothFaults (clockTimeFaults a) (clockTimeFaults b)) (accepted (orderOf a b))

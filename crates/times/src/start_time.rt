@@ -1,15 +1,13 @@
 // Start times, as start_time.rs has them. What they need of clocks comes in as a small answer.
 ghost use mathlib.Core.Path.{_≡_};
-ghost use Prim.Native.Nat.{_-_};
-ghost use Rattle.times.specs.Durations.{nanosOf};
-ghost use Rattle.times.specs.Starts.{startFaults, delayOf, awaitedOf, updateOf, tryUpdateOf, toldStart};
+ghost use Rattle.times.specs.Starts.{startFaults, shorterBy, delayOf, awaitedOf, updateOf, tryUpdateOf, toldStart};
 use crate::duration::nanos;
 use crate::time::ClockTime;
+use crate::time::clock_time_faults;
 use judge::Faults;
 use judge::both;
 use judge::dt_faults;
 use judge::first_fault;
-use judge::fraction_faults;
 use judge::no_faults;
 use judge::span_faults;
 
@@ -43,19 +41,30 @@ pub fn start_faults(s: StartTime) -> Faults
     match s {
         StartTime::Immediate => no_faults(),
         StartTime::Delayed(ns) => span_faults(ns),
-        StartTime::At(t) => fraction_faults(t.fraction),
+        StartTime::At(t) => clock_time_faults(t),
     }
+}
+
+// What dt leaves of a delay, for whatever waits by one.
+pub fn shorter(ns: u64, dt: f64) -> u64
+    ensures { λ r. ⌜ r ≡ shorterBy dt ns ⌝ }
+{
+    let gone = nanos(dt);
+    if gone < ns {
+        return ns - gone;
+    }
+    0
 }
 
 // A delay after dt. With nothing left it is Immediate at once: RULES, delay-update.
 fn delayed(ns: u64, dt: f64) -> StartTime
-    ensures { λ r. ⌜ r ≡ delayOf (ns - nanosOf dt) ⌝ }
+    ensures { λ r. ⌜ r ≡ delayOf (shorterBy dt ns) ⌝ }
 {
-    let gone = nanos(dt);
-    if gone < ns {
-        return StartTime::Delayed(ns - gone);
+    let left = shorter(ns, dt);
+    if left == 0 {
+        return StartTime::Immediate;
     }
-    StartTime::Immediate
+    StartTime::Delayed(left)
 }
 
 // A clock time once the clocks have said when it is due.

@@ -1,7 +1,8 @@
 // Clock times, as clock/time.rs has them.
 ghost use mathlib.Core.Path.{_≡_};
-ghost use Rattle.times.specs.Times.{toldTime, fromTicksOf, tryFromFloatOf, tryAddTicksOf, trySubTicksOf, laterOf, earlierOf, tryAddFloatOf, trySubFloatOf, orderFractions, orderOf, tryOrderOf, toldOrder};
+ghost use Rattle.times.specs.Times.{timeAt, clockTimeFaults, toldTime, subtracted, fromTicksOf, tryFromFloatOf, tryAddTicksOf, trySubTicksOf, laterOf, earlierOf, tryAddFloatOf, trySubFloatOf, orderFractions, orderOf, tryOrderOf, toldOrder};
 use judge::BEFORE_ZERO;
+use judge::Faults;
 use judge::TICKS_FULL;
 use judge::both;
 use judge::first_fault;
@@ -42,14 +43,28 @@ pub enum Compared {
     Refused(u32),
 }
 
-pub fn from_ticks_u64(clock: ClockId, ticks: u64) -> ClockTime
-    ensures { λ r. ⌜ r ≡ fromTicksOf clock ticks ⌝ }
+// A clock time. It is made here and nowhere else.
+pub fn time_at(clock: ClockId, ticks: u64, fraction: f64) -> ClockTime
+    ensures { λ r. ⌜ r ≡ timeAt clock ticks fraction ⌝ }
 {
     ClockTime {
         clock,
         ticks,
-        fraction: 0.0,
+        fraction,
     }
+}
+
+// What is wrong with a clock time, wherever one is given.
+pub fn clock_time_faults(t: ClockTime) -> Faults
+    ensures { λ r. ⌜ r ≡ clockTimeFaults t ⌝ }
+{
+    fraction_faults(t.fraction)
+}
+
+pub fn from_ticks_u64(clock: ClockId, ticks: u64) -> ClockTime
+    ensures { λ r. ⌜ r ≡ fromTicksOf clock ticks ⌝ }
+{
+    time_at(clock, ticks, 0.0)
 }
 
 pub fn try_from_ticks_f64(clock: ClockId, x: f64) -> Timed
@@ -61,17 +76,13 @@ pub fn try_from_ticks_f64(clock: ClockId, x: f64) -> Timed
     if n != 0 {
         return Timed::Refused(n);
     }
-    Timed::At(ClockTime {
-        clock,
-        ticks: doubles::to_u64(x),
-        fraction: doubles::fract(x),
-    })
+    Timed::At(time_at(clock, doubles::to_u64(x), doubles::fract(x)))
 }
 
 pub fn try_add_u64(t: ClockTime, n: u64) -> Timed
     ensures { λ r. ⌜ toldTime r ≡ tryAddTicksOf t n ⌝ }
 {
-    let fault = first_fault(fraction_faults(t.fraction));
+    let fault = first_fault(clock_time_faults(t));
     if fault != 0 {
         return Timed::Refused(fault);
     }
@@ -79,17 +90,13 @@ pub fn try_add_u64(t: ClockTime, n: u64) -> Timed
         return Timed::Refused(TICKS_FULL);
     };
     let clock = t.clock;
-    Timed::At(ClockTime {
-        clock,
-        ticks,
-        fraction: t.fraction,
-    })
+    Timed::At(time_at(clock, ticks, t.fraction))
 }
 
 pub fn try_sub_u64(t: ClockTime, n: u64) -> Timed
     ensures { λ r. ⌜ toldTime r ≡ trySubTicksOf t n ⌝ }
 {
-    let fault = first_fault(fraction_faults(t.fraction));
+    let fault = first_fault(clock_time_faults(t));
     if fault != 0 {
         return Timed::Refused(fault);
     }
@@ -97,18 +104,14 @@ pub fn try_sub_u64(t: ClockTime, n: u64) -> Timed
         return Timed::Refused(BEFORE_ZERO);
     }
     let clock = t.clock;
-    Timed::At(ClockTime {
-        clock,
-        ticks: t.ticks - n,
-        fraction: t.fraction,
-    })
+    Timed::At(time_at(clock, t.ticks - n, t.fraction))
 }
 
 // t later by an amount with no minus sign.
 fn later(t: ClockTime, x: f64) -> Timed
     ensures { λ r. ⌜ toldTime r ≡ laterOf t x ⌝ }
 {
-    let fault = first_fault(both(float_faults(x), fraction_faults(t.fraction)));
+    let fault = first_fault(both(float_faults(x), clock_time_faults(t)));
     if fault != 0 {
         return Timed::Refused(fault);
     }
@@ -117,36 +120,31 @@ fn later(t: ClockTime, x: f64) -> Timed
         return Timed::Refused(TICKS_FULL);
     };
     let clock = t.clock;
-    Timed::At(ClockTime {
-        clock,
-        ticks,
-        fraction: doubles::fract(s),
-    })
+    Timed::At(time_at(clock, ticks, doubles::fract(s)))
 }
 
-// t earlier by an amount with no minus sign, with no ticks below 0.
-fn earlier(t: ClockTime, x: f64) -> Timed
-    ensures { λ r. ⌜ toldTime r ≡ earlierOf t x ⌝ }
+// A time less an amount with no minus sign, with no ticks below 0.
+fn less(t: ClockTime, x: f64) -> ClockTime
+    ensures { λ r. ⌜ r ≡ subtracted t x ⌝ }
 {
-    let fault = first_fault(both(float_faults(x), fraction_faults(t.fraction)));
-    if fault != 0 {
-        return Timed::Refused(fault);
-    }
     let clock = t.clock;
     let fraction = (doubles::fract(t.fraction - x) + 1.0) % 1.0;
     let n = doubles::to_u64(doubles::ceil(x - t.fraction));
     if n > t.ticks {
-        return Timed::At(ClockTime {
-            clock,
-            ticks: 0,
-            fraction,
-        });
+        return time_at(clock, 0, fraction);
     }
-    Timed::At(ClockTime {
-        clock,
-        ticks: t.ticks - n,
-        fraction,
-    })
+    time_at(clock, t.ticks - n, fraction)
+}
+
+// t earlier by an amount with no minus sign.
+fn earlier(t: ClockTime, x: f64) -> Timed
+    ensures { λ r. ⌜ toldTime r ≡ earlierOf t x ⌝ }
+{
+    let fault = first_fault(both(float_faults(x), clock_time_faults(t)));
+    if fault != 0 {
+        return Timed::Refused(fault);
+    }
+    Timed::At(less(t, x))
 }
 
 // t later by x ticks: for a negative x, earlier by its opposite.
@@ -209,7 +207,7 @@ pub fn partial_cmp(a: ClockTime, b: ClockTime) -> Order
 pub fn try_partial_cmp(a: ClockTime, b: ClockTime) -> Compared
     ensures { λ r. ⌜ toldOrder r ≡ tryOrderOf a b ⌝ }
 {
-    let fault = first_fault(both(fraction_faults(a.fraction), fraction_faults(b.fraction)));
+    let fault = first_fault(both(clock_time_faults(a), clock_time_faults(b)));
     if fault != 0 {
         return Compared::Refused(fault);
     }

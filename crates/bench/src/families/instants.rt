@@ -2,7 +2,7 @@
 use grammar::FloatAt;
 use grammar::NumberAt;
 use grammar::TimeAt;
-use text::Word;
+use names::TimeCall;
 use times::time::ClockId;
 use times::time::Compared;
 use times::time::Order;
@@ -112,29 +112,15 @@ fn cmp(line: &[u8], at: usize, out: &mut [u8]) -> usize {
     compared(out, try_partial_cmp(a, b))
 }
 
-// The answer's length, or 0 where the line is no call of this family.
-pub fn call(line: &[u8], name: Word, out: &mut [u8]) -> usize {
-    let at = name.to;
-    if grammar::is(line, name, b"time.fromu") {
-        return from_u64(line, at, out);
+// The answer's length, or 0 where the line is no call.
+pub fn call(line: &[u8], at: usize, call: TimeCall, out: &mut [u8]) -> usize {
+    match call {
+        TimeCall::FromU => from_u64(line, at, out),
+        TimeCall::FromF => from_f64(line, at, out),
+        TimeCall::AddF => shift_f64(line, at, false, out),
+        TimeCall::SubF => shift_f64(line, at, true, out),
+        TimeCall::AddU => shift_u64(line, at, false, out),
+        TimeCall::SubU => shift_u64(line, at, true, out),
+        TimeCall::Cmp => cmp(line, at, out),
     }
-    if grammar::is(line, name, b"time.fromf") {
-        return from_f64(line, at, out);
-    }
-    if grammar::is(line, name, b"time.addf") {
-        return shift_f64(line, at, false, out);
-    }
-    if grammar::is(line, name, b"time.subf") {
-        return shift_f64(line, at, true, out);
-    }
-    if grammar::is(line, name, b"time.addu") {
-        return shift_u64(line, at, false, out);
-    }
-    if grammar::is(line, name, b"time.subu") {
-        return shift_u64(line, at, true, out);
-    }
-    if grammar::is(line, name, b"time.cmp") {
-        return cmp(line, at, out);
-    }
-    0
 }

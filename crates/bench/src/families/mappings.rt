@@ -1,9 +1,10 @@
-// The calls map.* and val.*, without val.raw, which needs modulators.
+// The calls map.* and val.*, without val.raw, which needs modulators. Each gives the length of its answer, or 0 where
+// the line is no call.
 use grammar::FloatAt;
 use grammar::FloatMapAt;
 use grammar::FloatValueAt;
 use grammar::SpeedMapAt;
-use text::Word;
+use names::OutputCall;
 use values::value::Mapped;
 use values::value::Op;
 use values::value::Valued;
@@ -17,7 +18,7 @@ enum OpAt {
     No,
 }
 
-fn float_map(line: &[u8], at: usize, out: &mut [u8]) -> usize {
+pub fn float_map(line: &[u8], at: usize, out: &mut [u8]) -> usize {
     let FloatMapAt::Is(m, behind) = grammar::float_map(line, at) else {
         return 0;
     };
@@ -30,7 +31,7 @@ fn float_map(line: &[u8], at: usize, out: &mut [u8]) -> usize {
     answers::floated(out, try_map_float(m, x))
 }
 
-fn speed_map(line: &[u8], at: usize, out: &mut [u8]) -> usize {
+pub fn speed_map(line: &[u8], at: usize, out: &mut [u8]) -> usize {
     let SpeedMapAt::Is(m, behind) = grammar::speed_map(line, at) else {
         return 0;
     };
@@ -43,37 +44,34 @@ fn speed_map(line: &[u8], at: usize, out: &mut [u8]) -> usize {
     answers::speeded(out, try_map_speed(m, x))
 }
 
-// The operation that a call's last letters name, its operand read at a place; a negation has none.
-fn operation(line: &[u8], op: Word, at: usize) -> OpAt {
-    if grammar::is(line, op, b"neg") {
+// What an operation is, with its operand.
+fn with_operand(call: OutputCall, y: f64) -> Op {
+    match call {
+        OutputCall::Add => Op::Add(y),
+        OutputCall::Sub => Op::Sub(y),
+        OutputCall::Mul => Op::Mul(y),
+        OutputCall::Div => Op::Div(y),
+        OutputCall::Rem => Op::Rem(y),
+        OutputCall::Neg => Op::Neg,
+    }
+}
+
+// The operation that a call names, its operand read at a place; a negation has none.
+fn operation(line: &[u8], at: usize, call: OutputCall) -> OpAt {
+    if let OutputCall::Neg = call {
         return OpAt::Is(Op::Neg, at);
     }
     let FloatAt::Is(y, to) = grammar::float(line, at) else {
         return OpAt::No;
     };
-    if grammar::is(line, op, b"add") {
-        return OpAt::Is(Op::Add(y), to);
-    }
-    if grammar::is(line, op, b"sub") {
-        return OpAt::Is(Op::Sub(y), to);
-    }
-    if grammar::is(line, op, b"mul") {
-        return OpAt::Is(Op::Mul(y), to);
-    }
-    if grammar::is(line, op, b"div") {
-        return OpAt::Is(Op::Div(y), to);
-    }
-    if grammar::is(line, op, b"rem") {
-        return OpAt::Is(Op::Rem(y), to);
-    }
-    OpAt::No
+    OpAt::Is(with_operand(call, y), to)
 }
 
-fn map_op(line: &[u8], at: usize, op: Word, out: &mut [u8]) -> usize {
+pub fn map_op(line: &[u8], at: usize, call: OutputCall, out: &mut [u8]) -> usize {
     let FloatMapAt::Is(m, behind) = grammar::float_map(line, at) else {
         return 0;
     };
-    let OpAt::Is(o, to) = operation(line, op, behind) else {
+    let OpAt::Is(o, to) = operation(line, behind, call) else {
         return 0;
     };
     if !grammar::ended(line, to) {
@@ -88,11 +86,11 @@ fn map_op(line: &[u8], at: usize, op: Word, out: &mut [u8]) -> usize {
     }
 }
 
-fn value_op(line: &[u8], at: usize, op: Word, out: &mut [u8]) -> usize {
+pub fn value_op(line: &[u8], at: usize, call: OutputCall, out: &mut [u8]) -> usize {
     let FloatValueAt::Is(v, behind) = grammar::float_value(line, at) else {
         return 0;
     };
-    let OpAt::Is(o, to) = operation(line, op, behind) else {
+    let OpAt::Is(o, to) = operation(line, behind, call) else {
         return 0;
     };
     if !grammar::ended(line, to) {
@@ -105,35 +103,4 @@ fn value_op(line: &[u8], at: usize, op: Word, out: &mut [u8]) -> usize {
         }
         Valued::Refused(n) => answers::refused(out, n),
     }
-}
-
-// The answer's length, or 0 where the line is no call of this family.
-pub fn call(line: &[u8], name: Word, out: &mut [u8]) -> usize {
-    let at = name.to;
-    if grammar::is(line, name, b"map.f") {
-        return float_map(line, at, out);
-    }
-    if grammar::is(line, name, b"map.s") {
-        return speed_map(line, at, out);
-    }
-    // A line is no longer than this, so the four bytes of `map.` or `val.` can be counted on.
-    if name.from > 1023 {
-        return 0;
-    }
-    let dot = name.from + 4;
-    let op = Word {
-        from: dot,
-        to: name.to,
-    };
-    let family = Word {
-        from: name.from,
-        to: dot,
-    };
-    if grammar::is(line, family, b"map.") {
-        return map_op(line, at, op, out);
-    }
-    if grammar::is(line, family, b"val.") {
-        return value_op(line, at, op, out);
-    }
-    0
 }

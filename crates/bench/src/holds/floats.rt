@@ -1,173 +1,179 @@
 // The calls fp.*: on one parameter of kind f64.
-use crate::holds::Call;
-use crate::holds::NO_CALL;
-use crate::holds::asked;
-use crate::holds::marked;
 use grammar::FloatAt;
 use grammar::FloatValueAt;
+use grammar::NumberAt;
 use info::info::Info;
 use info::parameters::try_update_float_in;
 use lines::things::TweenAt;
 use lines::things::tween;
-use parameter::float::FloatAdvanced;
+use names::ParameterCall;
 use parameter::float::FloatMade;
 use parameter::float::FloatParameter;
 use parameter::float::new_float;
 use parameter::float::try_new_float;
 use parameter::float::try_set_float;
-use text::Word;
-use times::tween::Tween;
+use station::Station;
+use station::info_of;
 use values::value::FloatValue;
 
-// The length of the last answer, 0 where the call was an error; which parameters an accepted call has made;
-// and the parameters.
+// The parameters, and which of them an accepted call has made.
 pub struct Floats {
-    pub n: usize,
     pub made: [bool; 16],
     pub slots: [FloatParameter; 16],
 }
 
-// A value to set and its tween, or that the line is no call.
-pub enum FloatToSet {
-    Is(FloatValue, Tween),
-    No,
+// The answer's length, 0 where the line is no call, and the parameters.
+pub struct FloatsActed {
+    pub n: usize,
+    pub floats: Floats,
+}
+
+// The same of one parameter, and whether it is made.
+struct FloatActed {
+    n: usize,
+    made: bool,
+    parameter: FloatParameter,
 }
 
 // No parameter is made.
 pub fn no_floats() -> Floats {
     let parameter = new_float(FloatValue::Fixed(0.0), 0.0);
     Floats {
-        n: 0,
         made: [false; 16],
         slots: [parameter; 16],
     }
 }
 
-fn parameter_at(t: Floats, k: usize) -> FloatParameter {
-    t.slots[k % 16]
+fn acted(n: usize, made: bool, parameter: FloatParameter) -> FloatActed {
+    FloatActed { n, made, parameter }
 }
 
-// The parameters after a call on one of them, and the length of its answer.
-fn put(t: Floats, k: usize, r: FloatAdvanced, n: usize) -> Floats {
-    let mut table = t;
-    let made = marked(table.made, k, r.refused);
-    let parameter = r.parameter;
-    table.slots[k % 16] = parameter;
-    table.made = made;
-    table.n = n;
-    table
-}
-
-// A parameter that a line makes. The refusal is NO_CALL where the line is no call.
-fn to_make(line: &[u8], at: usize) -> FloatMade {
+// A parameter that a line makes; the one before it stays where that is refused.
+fn make(line: &[u8], at: usize, out: &mut [u8], made: bool, p: FloatParameter) -> FloatActed {
     let FloatValueAt::Is(v, a) = grammar::float_value(line, at) else {
-        return FloatMade::Refused(NO_CALL);
+        return acted(0, made, p);
     };
     let FloatAt::Is(x, to) = grammar::float(line, a) else {
-        return FloatMade::Refused(NO_CALL);
+        return acted(0, made, p);
     };
     if !grammar::ended(line, to) {
-        return FloatMade::Refused(NO_CALL);
+        return acted(0, made, p);
     }
-    try_new_float(v, x)
+    match try_new_float(v, x) {
+        FloatMade::Is(new) => acted(replies::ok(out), true, new),
+        FloatMade::Refused(n) => acted(answers::refused(out, n), made, p),
+    }
 }
 
-fn to_set(line: &[u8], at: usize) -> FloatToSet {
+fn set(line: &[u8], at: usize, out: &mut [u8], p: FloatParameter) -> FloatActed {
     let FloatValueAt::Is(v, a) = grammar::float_value(line, at) else {
-        return FloatToSet::No;
+        return acted(0, true, p);
     };
     let TweenAt::Is(w, to) = tween(line, a) else {
-        return FloatToSet::No;
+        return acted(0, true, p);
     };
     if !grammar::ended(line, to) {
-        return FloatToSet::No;
+        return acted(0, true, p);
     }
-    FloatToSet::Is(v, w)
-}
-
-fn make(line: &[u8], at: usize, p: FloatParameter) -> FloatAdvanced {
-    match to_make(line, at) {
-        FloatMade::Is(made) => FloatAdvanced {
-            refused: 0,
-            finished: false,
-            parameter: made,
-        },
-        FloatMade::Refused(n) => FloatAdvanced {
-            refused: n,
-            finished: false,
-            parameter: p,
-        },
-    }
-}
-
-fn set(line: &[u8], at: usize, p: FloatParameter) -> FloatAdvanced {
-    let FloatToSet::Is(v, w) = to_set(line, at) else {
-        return FloatAdvanced {
-            refused: NO_CALL,
-            finished: false,
-            parameter: p,
-        };
-    };
     let r = try_set_float(p, v, w);
     let parameter = r.parameter;
-    FloatAdvanced {
-        refused: r.refused,
-        finished: false,
-        parameter,
+    if r.refused != 0 {
+        return acted(answers::refused(out, r.refused), true, parameter);
     }
+    acted(replies::ok(out), true, parameter)
 }
 
-// What a call does to a parameter. Only the update sees clocks and modulators.
-fn stepped(line: &[u8], call: Call, p: FloatParameter, info: Info) -> FloatAdvanced {
-    match call {
-        Call::Make(at) => make(line, at, p),
-        Call::Set(at) => set(line, at, p),
-        Call::Update(dt) => try_update_float_in(info, p, dt),
-        Call::Value => FloatAdvanced {
-            refused: 0,
-            finished: false,
-            parameter: p,
-        },
-        Call::None => FloatAdvanced {
-            refused: NO_CALL,
-            finished: false,
-            parameter: p,
-        },
-    }
-}
-
-fn value(out: &mut [u8], at: usize, x: f64) -> usize {
-    let behind = digits::float(out, at, x);
+// A parameter's value, and the line's end.
+fn value(out: &mut [u8], at: usize, p: FloatParameter) -> usize {
+    let behind = digits::float(out, at, p.raw);
     digits::end(out, behind)
 }
 
-// The answer to a call, and its length.
-fn reply(out: &mut [u8], call: Call, refused: u32, finished: bool, raw: f64) -> usize {
-    if refused == NO_CALL {
-        return 0;
+fn update(line: &[u8], at: usize, out: &mut [u8], p: FloatParameter, info: Info) -> FloatActed {
+    let FloatAt::Is(dt, to) = grammar::float(line, at) else {
+        return acted(0, true, p);
+    };
+    if !grammar::ended(line, to) {
+        return acted(0, true, p);
     }
-    if refused != 0 {
-        return answers::refused(out, refused);
+    let r = try_update_float_in(info, p, dt);
+    let parameter = r.parameter;
+    if r.refused != 0 {
+        return acted(answers::refused(out, r.refused), true, parameter);
     }
+    let a = digits::flag(out, 0, r.finished);
+    let b = digits::put(out, a, b" ");
+    acted(value(out, b, parameter), true, parameter)
+}
+
+fn read(line: &[u8], at: usize, out: &mut [u8], p: FloatParameter) -> FloatActed {
+    if !grammar::ended(line, at) {
+        return acted(0, true, p);
+    }
+    acted(value(out, 0, p), true, p)
+}
+
+// A call on a parameter that is not made: it takes only `new`.
+fn unmade(
+    line: &[u8],
+    at: usize,
+    call: ParameterCall,
+    out: &mut [u8],
+    p: FloatParameter,
+) -> FloatActed {
     match call {
-        Call::Update(_) => {
-            let a = digits::flag(out, 0, finished);
-            let b = digits::put(out, a, b" ");
-            value(out, b, raw)
-        }
-        Call::Value => value(out, 0, raw),
-        Call::Make(_) => replies::ok(out),
-        Call::Set(_) => replies::ok(out),
-        Call::None => 0,
+        ParameterCall::New => make(line, at, out, false, p),
+        _ => acted(0, false, p),
     }
 }
 
-// Answers a call on the parameter that the line names.
-pub fn on(line: &[u8], name: Word, out: &mut [u8], t: Floats, info: Info) -> Floats {
-    let made = t.made;
-    let a = asked(line, name, made);
-    let call = a.call;
-    let r = stepped(line, call, parameter_at(t, a.k), info);
-    let n = reply(out, call, r.refused, r.finished, r.parameter.raw);
-    put(t, a.k, r, n)
+// A call on one that is. Only the update sees the station.
+fn made(
+    line: &[u8],
+    at: usize,
+    call: ParameterCall,
+    out: &mut [u8],
+    p: FloatParameter,
+    st: Station,
+) -> FloatActed {
+    match call {
+        ParameterCall::New => make(line, at, out, true, p),
+        ParameterCall::Set => set(line, at, out, p),
+        ParameterCall::Up => update(line, at, out, p, info_of(st)),
+        ParameterCall::Val => read(line, at, out, p),
+    }
+}
+
+// The parameters after a call on one of them.
+fn put(mut floats: Floats, k: usize, r: FloatActed) -> FloatsActed {
+    if k > 15 {
+        return FloatsActed { n: 0, floats };
+    }
+    let parameter = r.parameter;
+    floats.made[k] = r.made;
+    floats.slots[k] = parameter;
+    FloatsActed { n: r.n, floats }
+}
+
+// Answers a call on the parameter that the line names, behind the call's name.
+pub fn on(
+    line: &[u8],
+    from: usize,
+    call: ParameterCall,
+    out: &mut [u8],
+    floats: Floats,
+    st: Station,
+) -> FloatsActed {
+    let NumberAt::Is(number, at) = grammar::number(line, from) else {
+        return FloatsActed { n: 0, floats };
+    };
+    let k = number as usize;
+    if k > 15 {
+        return FloatsActed { n: 0, floats };
+    }
+    let p = floats.slots[k];
+    if !floats.made[k] {
+        return put(floats, k, unmade(line, at, call, out, p));
+    }
+    put(floats, k, made(line, at, call, out, p, st))
 }

@@ -1,8 +1,6 @@
 // The calls sp.*: on one parameter of kind speed.
-use crate::holds::Call;
-use crate::holds::NO_CALL;
-use crate::holds::asked;
-use crate::holds::marked;
+use grammar::FloatAt;
+use grammar::NumberAt;
 use grammar::SpeedAt;
 use info::info::Info;
 use info::parameters::try_update_speed_in;
@@ -10,29 +8,34 @@ use lines::things::SpeedValueAt;
 use lines::things::TweenAt;
 use lines::things::speed_value;
 use lines::things::tween;
-use parameter::speed::SpeedAdvanced;
+use names::ParameterCall;
 use parameter::speed::SpeedMade;
 use parameter::speed::SpeedParameter;
 use parameter::speed::new_speed;
 use parameter::speed::try_new_speed;
 use parameter::speed::try_set_speed;
-use text::Word;
-use times::tween::Tween;
+use station::Station;
+use station::info_of;
 use values::clock_speed::ClockSpeed;
 use values::value::SpeedValue;
 
-// The length of the last answer, 0 where the call was an error; which parameters an accepted call has made;
-// and the parameters.
+// The parameters, and which of them an accepted call has made.
 pub struct Speeds {
-    pub n: usize,
     pub made: [bool; 16],
     pub slots: [SpeedParameter; 16],
 }
 
-// A value to set and its tween, or that the line is no call.
-pub enum SpeedToSet {
-    Is(SpeedValue, Tween),
-    No,
+// The answer's length, 0 where the line is no call, and the parameters.
+pub struct SpeedsActed {
+    pub n: usize,
+    pub speeds: Speeds,
+}
+
+// The same of one parameter, and whether it is made.
+struct SpeedActed {
+    n: usize,
+    made: bool,
+    parameter: SpeedParameter,
 }
 
 // No parameter is made.
@@ -40,139 +43,142 @@ pub fn no_speeds() -> Speeds {
     let zero = ClockSpeed::TicksPerSecond(0.0);
     let parameter = new_speed(SpeedValue::Fixed(zero), zero);
     Speeds {
-        n: 0,
         made: [false; 16],
         slots: [parameter; 16],
     }
 }
 
-fn parameter_at(t: Speeds, k: usize) -> SpeedParameter {
-    t.slots[k % 16]
+fn acted(n: usize, made: bool, parameter: SpeedParameter) -> SpeedActed {
+    SpeedActed { n, made, parameter }
 }
 
-// The parameters after a call on one of them, and the length of its answer.
-fn put(t: Speeds, k: usize, r: SpeedAdvanced, n: usize) -> Speeds {
-    let mut table = t;
-    let made = marked(table.made, k, r.refused);
-    let parameter = r.parameter;
-    table.slots[k % 16] = parameter;
-    table.made = made;
-    table.n = n;
-    table
-}
-
-// A parameter that a line makes. The refusal is NO_CALL where the line is no call.
-fn to_make(line: &[u8], at: usize) -> SpeedMade {
+// A parameter that a line makes; the one before it stays where that is refused.
+fn make(line: &[u8], at: usize, out: &mut [u8], made: bool, p: SpeedParameter) -> SpeedActed {
     let SpeedValueAt::Is(v, a) = speed_value(line, at) else {
-        return SpeedMade::Refused(NO_CALL);
+        return acted(0, made, p);
     };
     let SpeedAt::Is(x, to) = grammar::speed(line, a) else {
-        return SpeedMade::Refused(NO_CALL);
+        return acted(0, made, p);
     };
     if !grammar::ended(line, to) {
-        return SpeedMade::Refused(NO_CALL);
+        return acted(0, made, p);
     }
-    try_new_speed(v, x)
+    match try_new_speed(v, x) {
+        SpeedMade::Is(new) => acted(replies::ok(out), true, new),
+        SpeedMade::Refused(n) => acted(answers::refused(out, n), made, p),
+    }
 }
 
-fn to_set(line: &[u8], at: usize) -> SpeedToSet {
+fn set(line: &[u8], at: usize, out: &mut [u8], p: SpeedParameter) -> SpeedActed {
     let SpeedValueAt::Is(v, a) = speed_value(line, at) else {
-        return SpeedToSet::No;
+        return acted(0, true, p);
     };
     let TweenAt::Is(w, to) = tween(line, a) else {
-        return SpeedToSet::No;
+        return acted(0, true, p);
     };
     if !grammar::ended(line, to) {
-        return SpeedToSet::No;
+        return acted(0, true, p);
     }
-    SpeedToSet::Is(v, w)
-}
-
-fn make(line: &[u8], at: usize, p: SpeedParameter) -> SpeedAdvanced {
-    match to_make(line, at) {
-        SpeedMade::Is(made) => SpeedAdvanced {
-            refused: 0,
-            finished: false,
-            parameter: made,
-        },
-        SpeedMade::Refused(n) => SpeedAdvanced {
-            refused: n,
-            finished: false,
-            parameter: p,
-        },
-    }
-}
-
-fn set(line: &[u8], at: usize, p: SpeedParameter) -> SpeedAdvanced {
-    let SpeedToSet::Is(v, w) = to_set(line, at) else {
-        return SpeedAdvanced {
-            refused: NO_CALL,
-            finished: false,
-            parameter: p,
-        };
-    };
     let r = try_set_speed(p, v, w);
     let parameter = r.parameter;
-    SpeedAdvanced {
-        refused: r.refused,
-        finished: false,
-        parameter,
+    if r.refused != 0 {
+        return acted(answers::refused(out, r.refused), true, parameter);
     }
+    acted(replies::ok(out), true, parameter)
 }
 
-// What a call does to a parameter. Only the update sees clocks and modulators.
-fn stepped(line: &[u8], call: Call, p: SpeedParameter, info: Info) -> SpeedAdvanced {
-    match call {
-        Call::Make(at) => make(line, at, p),
-        Call::Set(at) => set(line, at, p),
-        Call::Update(dt) => try_update_speed_in(info, p, dt),
-        Call::Value => SpeedAdvanced {
-            refused: 0,
-            finished: false,
-            parameter: p,
-        },
-        Call::None => SpeedAdvanced {
-            refused: NO_CALL,
-            finished: false,
-            parameter: p,
-        },
-    }
-}
-
-fn value(out: &mut [u8], at: usize, x: ClockSpeed) -> usize {
-    let behind = answers::speed(out, at, x);
+// A parameter's value, and the line's end.
+fn value(out: &mut [u8], at: usize, p: SpeedParameter) -> usize {
+    let raw = p.raw;
+    let behind = answers::speed(out, at, raw);
     digits::end(out, behind)
 }
 
-// The answer to a call, and its length.
-fn reply(out: &mut [u8], call: Call, refused: u32, finished: bool, raw: ClockSpeed) -> usize {
-    if refused == NO_CALL {
-        return 0;
+fn update(line: &[u8], at: usize, out: &mut [u8], p: SpeedParameter, info: Info) -> SpeedActed {
+    let FloatAt::Is(dt, to) = grammar::float(line, at) else {
+        return acted(0, true, p);
+    };
+    if !grammar::ended(line, to) {
+        return acted(0, true, p);
     }
-    if refused != 0 {
-        return answers::refused(out, refused);
+    let r = try_update_speed_in(info, p, dt);
+    let parameter = r.parameter;
+    if r.refused != 0 {
+        return acted(answers::refused(out, r.refused), true, parameter);
     }
+    let a = digits::flag(out, 0, r.finished);
+    let b = digits::put(out, a, b" ");
+    acted(value(out, b, parameter), true, parameter)
+}
+
+fn read(line: &[u8], at: usize, out: &mut [u8], p: SpeedParameter) -> SpeedActed {
+    if !grammar::ended(line, at) {
+        return acted(0, true, p);
+    }
+    acted(value(out, 0, p), true, p)
+}
+
+// A call on a parameter that is not made: it takes only `new`.
+fn unmade(
+    line: &[u8],
+    at: usize,
+    call: ParameterCall,
+    out: &mut [u8],
+    p: SpeedParameter,
+) -> SpeedActed {
     match call {
-        Call::Update(_) => {
-            let a = digits::flag(out, 0, finished);
-            let b = digits::put(out, a, b" ");
-            value(out, b, raw)
-        }
-        Call::Value => value(out, 0, raw),
-        Call::Make(_) => replies::ok(out),
-        Call::Set(_) => replies::ok(out),
-        Call::None => 0,
+        ParameterCall::New => make(line, at, out, false, p),
+        _ => acted(0, false, p),
     }
 }
 
-// Answers a call on the parameter that the line names.
-pub fn on(line: &[u8], name: Word, out: &mut [u8], t: Speeds, info: Info) -> Speeds {
-    let made = t.made;
-    let a = asked(line, name, made);
-    let call = a.call;
-    let r = stepped(line, call, parameter_at(t, a.k), info);
+// A call on one that is. Only the update sees the station.
+fn made(
+    line: &[u8],
+    at: usize,
+    call: ParameterCall,
+    out: &mut [u8],
+    p: SpeedParameter,
+    st: Station,
+) -> SpeedActed {
+    match call {
+        ParameterCall::New => make(line, at, out, true, p),
+        ParameterCall::Set => set(line, at, out, p),
+        ParameterCall::Up => update(line, at, out, p, info_of(st)),
+        ParameterCall::Val => read(line, at, out, p),
+    }
+}
+
+// The parameters after a call on one of them.
+fn put(mut speeds: Speeds, k: usize, r: SpeedActed) -> SpeedsActed {
+    if k > 15 {
+        return SpeedsActed { n: 0, speeds };
+    }
     let parameter = r.parameter;
-    let raw = parameter.raw;
-    let n = reply(out, call, r.refused, r.finished, raw);
-    put(t, a.k, r, n)
+    speeds.made[k] = r.made;
+    speeds.slots[k] = parameter;
+    SpeedsActed { n: r.n, speeds }
+}
+
+// Answers a call on the parameter that the line names, behind the call's name.
+pub fn on(
+    line: &[u8],
+    from: usize,
+    call: ParameterCall,
+    out: &mut [u8],
+    speeds: Speeds,
+    st: Station,
+) -> SpeedsActed {
+    let NumberAt::Is(number, at) = grammar::number(line, from) else {
+        return SpeedsActed { n: 0, speeds };
+    };
+    let k = number as usize;
+    if k > 15 {
+        return SpeedsActed { n: 0, speeds };
+    }
+    let p = speeds.slots[k];
+    if !speeds.made[k] {
+        return put(speeds, k, unmade(line, at, call, out, p));
+    }
+    put(speeds, k, made(line, at, call, out, p, st))
 }

@@ -1,25 +1,27 @@
 -- `tick` meets its contract: its test and the ticks that it takes are those of the definition, by what its callees
 -- give. Assumes nothing.
 use borrow.Author.Needs.{needs}
-use mathlib.Core.Path.{sym, _∙_}
+use mathlib.Core.Path.{sym, ap, _∙_}
 use lib.Ieee.{ofBits}
+use Rattle.judge.specs.Judge.{numberOf}
+use Rattle.ticks.specs.WholeTicks.{toldTaken}
 use Rattle.clock.specs.OneClock.{tickOf}
 use Rattle.clock.proofs.tick.Statement.{statement}
 use Rattle.clock.proofs.tick.Tie as tie
 
 returns : tie.Need-returns
-unfolding tickOf ofBits
+unfolding tickOf numberOf ofBits
 returns c = rw (← c .before .as-ticks-per-second .ensures, c .if1 .taken)
 
 returns-2 : tie.Need-returns-2
-unfolding tickOf ofBits
+unfolding tickOf numberOf ofBits
 returns-2 c =
     let take = c .before .before in
     let from = take .before .before in
-    rw (← from .before .before .as-ticks-per-second .ensures, from .before .if1 .left, ← from .position .ensures, sym (take .take-ticks .ensures) ∙ c .enum-told .given .1)
+    rw (← from .before .before .as-ticks-per-second .ensures, from .before .if1 .left, ← from .position .ensures, sym (take .take-ticks .ensures) ∙ ap toldTaken (c .enum-told .given .1))
 
 returns-3 : tie.Need-returns-3
-unfolding tickOf ofBits
+unfolding tickOf numberOf ofBits
 returns-3 c =
     let to = c .before .before .before in
     let take = to .before .before in
@@ -28,7 +30,7 @@ returns-3 c =
       ← from .before .before .as-ticks-per-second .ensures,
       from .before .if1 .left,
       ← from .position .ensures,
-      sym (take .take-ticks .ensures) ∙ to .to .given .1,
+      sym (take .take-ticks .ensures) ∙ ap toldTaken (to .to .given .1),
       c .report .ensures,
       c .before .is-fresh .ensures,
     )

@@ -1,38 +1,48 @@
 -- `look` meets its contract: the clock that it reads is the one in the slot found. Assumes nothing.
-use borrow.Author.Needs.{needs}
+use Prim.Native.Nat.{ℕ, _<_}
 use native.Mathlib.Omega.{arith}
-use mathlib.Core.Path.{_≡_, sym, _∙_}
-use Rattle.ids.specs.Tables.{whereIs}
-use Rattle.ids.specs.declared.Found.the-variants as found
-use Rattle.clock_table.specs.ClockTables.{clockTable, lookOf}
-use Rattle.clock_table.proofs.Slots.{Sixteen, sixteen, inside, reads}
+use mathlib.Core.Path.{ap, _∙_}
+use Rattle.judge.specs.Answer.{accepted, refused}
+use Rattle.judge.specs.Numbers.{«NO_SUCH»}
+use Rattle.ids.specs.Lists.{readAt}
+use Rattle.ids.proofs.Places.{some-slot, living, missing, living-read}
+use Rattle.clock_table.specs.ClockTables.{inSlot, lookOf}
+use Rattle.clock.specs.declared.Clock.{Clock}
+use Rattle.clock_table.proofs.Slots.{Sixteen, sixteen}
 use Rattle.clock_table.proofs.look.Statement.{statement}
 use Rattle.clock_table.proofs.look.Tie as tie
 
-abbrev start : tie.After-known-told → tie.Start
-start c = c .before .before .before .before .before
+abbrev start : tie.After-find → tie.Start
+start c = c .before .before
 
-sizes : (c : tie.After-known-told) → Sixteen (start c .args .t1)
+sizes : (c : tie.After-find) → Sixteen (start c .args .t1)
 sizes c = sixteen (start c .args .t1) _ (start c .good .0)
 
-place : (c : tie.After-known-told) → whereIs clockTable (start c .args .t1) (start c .args .id) ≡ found.At (c .before .i .given .0 .0)
-place c = sym (c .before .before .before .find .ensures) ∙ c .before .i .given .1
+below : (c : tie.After-find) → c .find .result .slot < 16
+below c = some-slot _ _ _ (sizes c .keys) (c .find .ensures)
 
 returns : tie.Need-returns
 unfolding lookOf
-returns c = rw (sym (c .before .before .find .ensures) ∙ c .enum-told .given .1)
+returns c =
+    let f = c .before .before in
+    rw (missing _ _ _ (sizes f .keys) (f .find .ensures) (c .if1 .taken))
 
 returns-2 : tie.Need-returns-2
-returns-2 c = reads _ _ (sizes (c .before)) _ _ (place (c .before))
+unfolding lookOf
+returns-2 c =
+    let test = c .before in
+    let f = test .before .before in
+    let v = living _ _ _ (sizes f .keys) (f .find .ensures) (test .if1 .left) in
+    rw (v .is)
+    (living-read _ _ _ (sizes f .keys) (f .find .ensures) (test .if1 .left) (refused «NO_SUCH») (λ (x : Clock). accepted (inSlot (f .find .result .slot) x)) _ _ (sizes f .clocks)
+    ∙ ap (λ (i : ℕ). readAt (refused «NO_SUCH») (λ (x : Clock). accepted (inSlot i x)) (start f .args .t1 .clocks) (start f .args .id .slot)) (v .here))
 
 pub look-spec : {M : Type 1} → statement M
 look-spec =
     tie.close
     (tie.spec
     (λ _ _. tt)
-    (λ c. search needs)
-    (λ c. search needs)
     returns
-    (λ c. omega (arith, inside _ _ (sizes c) _ (place c)))
-    (λ c. inside _ _ (sizes c) _ (place c))
+    (λ c. omega (arith, below (c .before .before)))
+    (λ c. below (c .before .before))
     returns-2)

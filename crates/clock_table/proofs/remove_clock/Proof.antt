@@ -1,49 +1,39 @@
--- `remove_clock` meets its contract: the key that it frees is that of the slot looked up. Assumes nothing.
-use borrow.Author.Needs.{needs}
-use Prim.Native.Nat.{ℕ, _<_}
+-- `remove_clock` meets its contract: it stores one key, that of the slot found, freed or as it was. Assumes nothing.
+use Prim.Native.Nat.{_<_}
 use native.Mathlib.Omega.{arith}
-use Rattle.ids.specs.Tables.{freed}
-use Rattle.clock.specs.declared.Clock.{Clock}
+use mathlib.Core.Path.{refl}
+use Rattle.doubles.specs.Doubles.{zeroF}
+use Rattle.ids.proofs.Entries.{frees}
+use Rattle.ids.proofs.Places.{some-slot}
+use Rattle.clock.specs.OneClock.{newClock}
+use Rattle.values.specs.declared.clock_speed.ClockSpeed.the-variants.{TicksPerSecond}
+use Rattle.values.specs.declared.value.SpeedValue.the-variants.{Fixed}
 use Rattle.clock_table.specs.ClockTables.{clockTable, removeOf}
-use Rattle.clock_table.specs.declared.ClockDone.{ClockDone}
-use Rattle.clock_table.proofs.Slots.{sixteen, below, acts}
+use Rattle.clock_table.proofs.Slots.{Sixteen, sixteen}
 use Rattle.clock_table.proofs.remove_clock.Statement.{statement}
 use Rattle.clock_table.proofs.remove_clock.Tie as tie
 
--- the definition's call on the clock looked up
-abbrev made : tie.Start → ℕ → Clock → ClockDone
-made s i c = freed clockTable (s .args .t) i (s .args .id .generation)
+sizes : (s : tie.Start) → Sixteen (s .args .t)
+sizes s = sixteen (s .args .t) _ (s .good .0)
 
-in-table : (c : tie.After-known-told) → c .before .i .given .0 .0 < 16
-in-table c =
-    let told = c .before in
-    let looked = told .before .before in
-    let s = looked .before in
-    below _ _ (sixteen (s .args .t) _ (s .good .0)) (looked .look .ensures) (told .i .given .1)
+below : (c : tie.After-find) → c .find .result .slot < 16
+below c = some-slot _ _ _ (sizes (c .before .before) .keys) (c .find .ensures)
 
 returns : tie.Need-returns
 unfolding removeOf
 returns c =
-    let told = c .before in
-    let looked = told .before .before in
-    acts _ _ (looked .look .ensures) (told .i .given .1) (made (looked .before))
-
-returns-2 : tie.Need-returns-2
-unfolding removeOf
-returns-2 c =
-    let told = c .before .before in
-    let looked = told .before .before in
-    rw (c .refused .ensures) (acts _ _ (looked .look .ensures) (told .n .given .1) (made (looked .before)))
+    let f = c .before .before in
+    let s = f .before .before in
+    frees clockTable (s .args .t) (s .args .id) refl (sizes s .keys) (sizes s .clocks) _ (newClock (Fixed (TicksPerSecond zeroF))) _ (f .find .ensures) (c .left .ensures)
 
 pub remove-clock-spec : {M : Type 1} → statement M
 remove-clock-spec =
     tie.close
     (tie.spec
     (λ _ _. tt)
-    (λ c. search needs)
-    (λ c. omega (arith, in-table c))
-    in-table
-    (λ c. search needs)
+    (λ c. omega (arith, below c))
+    below
     (λ _ _. tt)
-    returns
-    returns-2)
+    (λ c. omega (arith, below (c .before .before)))
+    (λ c. below (c .before .before))
+    returns)

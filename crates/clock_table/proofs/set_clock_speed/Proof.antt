@@ -1,47 +1,42 @@
--- `set_clock_speed` meets its contract: the clock looked up becomes what `speed_to` gives. Assumes nothing.
-use borrow.Author.Needs.{needs}
-use Prim.Native.Nat.{ℕ}
+-- `set_clock_speed` meets its contract: it stores once, the clock with its speed set or as it was. Assumes nothing.
+use Prim.Native.Nat.{ℕ, _<_}
+use native.Mathlib.Omega.{arith}
+use mathlib.Core.Path.{_≡_, refl}
+use Rattle.ids.proofs.Entries.{stores}
+use Rattle.ids.proofs.Places.{some-slot}
 use Rattle.parameter.specs.SpeedParameters.{trySetOf}
+use Rattle.clock.specs.OneClock.{spedOf}
 use Rattle.clock.specs.declared.Clock.{Clock}
-use Rattle.clock_table.specs.ClockTables.{bySet, setSpeedOf}
-use Rattle.clock_table.specs.declared.ClockDone.{ClockDone}
-use Rattle.clock_table.proofs.Slots.{sixteen, below, acts}
+use Rattle.clock_table.specs.ClockTables.{clockTable, setSpeedOf}
+use Rattle.clock_table.proofs.Slots.{Sixteen, sixteen, sped-number, sped-clock}
 use Rattle.clock_table.proofs.set_clock_speed.Statement.{statement}
 use Rattle.clock_table.proofs.set_clock_speed.Tie as tie
 
--- the definition's call on the clock looked up
-abbrev made : tie.Start → ℕ → Clock → ClockDone
-made s i c = bySet (s .args .t) i c (trySetOf (c .speed) (s .args .target) (s .args .tween))
+sizes : (s : tie.Start) → Sixteen (s .args .t)
+sizes s = sixteen (s .args .t) _ (s .good .0)
 
-in-table : tie.Need-speed-to-requires
-in-table c κs =
-    let told = c .before in
-    let looked = told .before .before in
-    let s = looked .before in
-    below _ _ (sixteen (s .args .t) _ (s .good .0)) (looked .look .ensures) (told .i .given .1)
+below : (c : tie.After-find) → c .find .result .slot < 16
+below c = some-slot _ _ _ (sizes (c .before .before) .keys) (c .find .ensures)
 
 returns : tie.Need-returns
 unfolding setSpeedOf
 returns c =
-    let told = c .before .before in
-    let looked = told .before .before in
-    rw (c .speed-to .ensures) (acts _ _ (looked .look .ensures) (told .i .given .1) (made (looked .before)))
-
-returns-2 : tie.Need-returns-2
-unfolding setSpeedOf
-returns-2 c =
-    let told = c .before .before in
-    let looked = told .before .before in
-    rw (c .refused .ensures) (acts _ _ (looked .look .ensures) (told .n .given .1) (made (looked .before)))
+    let sped = c .before in
+    let f = sped .before .before in
+    let s = f .before .before in
+    let a = s .args in
+    stores clockTable (a .t) (a .id) refl (sizes s .keys) (sizes s .clocks) _
+    (λ (x : Clock). trySetOf (x .speed) (a .target) (a .tween) .refused) (λ (x : Clock). spedOf (trySetOf (x .speed) (a .target) (a .tween) .parameter) x)
+    (f .find .ensures) (sped-number _ _ _ _ (sped .speed-by .ensures)) (sped-clock _ _ _ _ (sped .speed-by .ensures))
 
 pub set-clock-speed-spec : {M : Type 1} → statement M
 set-clock-speed-spec =
     tie.close
     (tie.spec
     (λ _ _. tt)
-    (λ c. search needs)
-    in-table
-    (λ c. search needs)
+    (λ c. omega (arith, below c))
+    below
     (λ _ _. tt)
-    returns
-    returns-2)
+    (λ c. omega (arith, below (c .before .before .before)))
+    (λ c. below (c .before .before .before))
+    returns)

@@ -7,11 +7,12 @@ use mathlib.Core.Logic.{_↔_}
 use mathlib.Core.List.{List, [], _∷_}
 use lib.Dec.{eqb}
 use borrow.Author.Tests.{eqb-true, eqb-false}
-use Rattle.judge.specs.Judge.{firstFault}
-use Rattle.ids.specs.declared.Key.{Key}
+use Rattle.judge.specs.Answer.{accepted, refused, numberTold}
+use Rattle.judge.specs.Judge.{Conditions, ofId, ofTurn, numberOf, firstFault, answered}
+use Rattle.judge.specs.Numbers.{«NO_SUCH», «TOO_FAR», «TICKS_FULL»}
+use Rattle.judge.proofs.Judged.{arguments-first}
 use Rattle.judge.specs.declared.Faults.{Faults}
 use Rattle.laws.specs.SoundStation.{All}
-use Rattle.demands.specs.Conditions.{everyTaken, ofId, ofAdd}
 use Rattle.demands.specs.Order.{order, holds, firstIn, before, among}
 
 -- ---- any list
@@ -55,28 +56,10 @@ module _ (f : ℕ → Bool) where
 
 -- ---- the order
 
-abbrev flags : Bool → Bool → Bool → Bool → Bool → Bool → Faults
-flags a b c d e g = record { dt = a; float = b; speed = c; ease = d; map = e; time = g }
-
--- the id first, then the arguments, then the rest
-pub given-is :
-    (m : Bool) (f : Faults) (r t u s z : Bool)
-    → firstIn order (holds (record { missing = m; faults = f; noRoom = r; tooFar = t; ticksFull = u; short = s; beforeZero = z }))
-    ≡ cond m 7 (cond (eqb (firstFault f) 0) (cond r 8 (cond t 9 (cond u 10 (cond s 11 (cond z 12 0))))) (firstFault f))
-unfolding firstIn firstFault
-given-is m f r t u s z = ap (cond m 7) (go (f .dt) (f .float) (f .speed) (f .ease) (f .map) (f .time) (cond r 8 (cond t 9 (cond u 10 (cond s 11 (cond z 12 0))))))
-  where
-    go :
-        (a b c d e g : Bool) (x : ℕ)
-        → cond a 1 (cond b 2 (cond c 3 (cond d 4 (cond e 5 (cond g 6 x)))))
-        ≡ cond (eqb (firstFault (flags a b c d e g)) 0) x (firstFault (flags a b c d e g))
-    go true b c d e g x = refl
-    go false true c d e g x = refl
-    go false false true d e g x = refl
-    go false false false true e g x = refl
-    go false false false false true g x = refl
-    go false false false false false true x = refl
-    go false false false false false false x = refl
+-- the number that the list gives first is the call's
+pub all-given : (c : Conditions) → firstIn order (holds c) ≡ numberOf c
+unfolding firstIn numberOf
+all-given c = refl
 
 -- a call that is judged by a number has that number
 pub judged-number : {R : Type 0} (number : R → ℕ) (x y : R) (n : ℕ) → number x ≡ 0 → number y ≡ n → number (cond (eqb n 0) x y) ≡ n
@@ -86,9 +69,16 @@ judged-number number x y n p q = go (eqb n 0) (eqb-true n 0)
     go true h = p ∙ sym (h refl)
     go false h = q
 
--- an id, and the faults of what comes with it
-pub id-given : (m : Bool) (f : Faults) → firstIn order (holds (ofId m f)) ≡ cond m 7 (firstFault f)
-id-given m f = given-is m f false false false false false ∙ ap (cond m 7) (judged-number (λ (n : ℕ). n) 0 (firstFault f) (firstFault f) refl refl)
+-- an answer that is judged has the number of what is wrong
+pub told-given : {A : Type 0} (c : Conditions) (x : A) → numberTold (answered c x) ≡ firstIn order (holds c)
+told-given c x = judged-number numberTold (accepted x) (refused (numberOf c)) (numberOf c) refl refl ∙ sym (all-given c)
 
-pub add-given : (f : Faults) (ks : List Key) → firstIn order (holds (ofAdd f ks)) ≡ cond (eqb (firstFault f) 0) (cond (everyTaken ks) 8 0) (firstFault f)
-add-given f ks = given-is false f (everyTaken ks) false false false false
+-- an id, and the faults of what comes with it
+pub id-given : (m : Bool) (f : Faults) → firstIn order (holds (ofId m f)) ≡ cond m «NO_SUCH» (firstFault f)
+unfolding firstIn firstFault
+id-given m f = refl
+
+-- a clock's turn, and a frame
+pub turn-given : (f : Faults) (far full : Bool) → firstIn order (holds (ofTurn f far full)) ≡ cond (eqb (firstFault f) 0) (cond far «TOO_FAR» (cond full «TICKS_FULL» 0)) (firstFault f)
+unfolding numberOf
+turn-given f far full = all-given (ofTurn f far full) ∙ arguments-first false far full false false f

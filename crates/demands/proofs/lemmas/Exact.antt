@@ -19,7 +19,7 @@ use Rattle.doubles.proofs.Quotients.{units-of}
 use Rattle.doubles.proofs.Unit.{none, no-times, On, add-rounds}
 use Rattle.ticks.specs.WholeTicks.{roomFor, takenOf}
 use Rattle.ticks.specs.declared.Position.{Position}
-use Rattle.ticks.specs.declared.Taken.the-variants.{At, Full}
+use Rattle.judge.specs.Answer.{accepted}
 use Rattle.ticks.proofs.Parts.{ticksOf, ticks-value, fract-value}
 use Rattle.ticks.proofs.Sums.{room, taken-room}
 use Rattle.judge.specs.Judge.{badFraction}
@@ -166,7 +166,7 @@ pub record Took (n k : ℕ) (to : Position) : Type 0 where
   pub double : T (fits binary64 (to .fraction))
   pub room : to .ticks ≤ 2 ^ 64 - 1
 
-pub took : (n k : ℕ) (x : Float) (to : Position) → n ≤ 2 ^ 64 - 1 → T (fits binary64 x) → Parts x false k → k < 2 ^ 53 → takenOf n x ≡ At to → Took n k to
+pub took : (n k : ℕ) (x : Float) (to : Position) → n ≤ 2 ^ 64 - 1 → T (fits binary64 x) → Parts x false k → k < 2 ^ 53 → takenOf n x ≡ accepted to → Took n k to
 unfolding roomFor
 took n k x to N F v l e =
     let f = value-finite x false k (2 ^ 32) v in
@@ -182,7 +182,7 @@ took n k x to N F v l e =
         subst (λ (z : Float). Parts z false r) (sym (fract-value x k (2 ^ 32) (pow-pos 32) F v))
         (round-exact binary64 false r (2 ^ 32) r 1042 (pow-pos 32) q (small r q) (sym (mul-assoc r (2 ^ 1042) (2 ^ 32))))
 
-    go : (b : Bool) → (b ≡ false → n + ticksOf x ≤ 2 ^ 64 - 1) → room n x b ≡ At to → Took n k to
+    go : (b : Bool) → (b ≡ false → n + ticksOf x ≤ 2 ^ 64 - 1) → room n x b ≡ accepted to → Took n k to
     go true h i = absurd (false≢true cc)
     go false h i =
         let p : record { ticks = n + ticksOf x; fraction = fractOf x } ≡ to = cc in

@@ -3,20 +3,25 @@
 use Prim.Native.Nat.{ℕ, zero, suc, _+_, _≤_, _<_}
 use native.Mathlib.Nat.{not-suc-le-zero, le-of-suc-le-suc}
 use native.Mathlib.Omega.{arith}
-use mathlib.Core.Path.{_≡_, refl}
-use mathlib.Core.Bool.{Bool, true, false, not, _&&_, _||_, cond}
+use mathlib.Core.Path.{_≡_, refl, sym, ap, _∙_}
+use mathlib.Core.Bool.{Bool, true, false, not, _&&_, _||_, cond, true≢false}
 use mathlib.Core.List.{List, [], _∷_}
 use lib.ListN.{length}
-use lib.Dec.{ltb}
-use Rattle.ids.specs.Keys.{freeOf, livesIn, findOf}
+use lib.Dec.{ltb, eqb}
+use borrow.Author.Tests.{eqb-true}
+use Rattle.ids.specs.Keys.{Place, place, roomAt, freeOf, livesIn, noSuch, findOf}
 use Rattle.ids.specs.Lists.{readAt}
+use Rattle.ids.specs.Tables.{Table, Added, refusedAdd, placedIn, addedIn, addedTo}
 use Rattle.ids.specs.declared.Key.{Key}
-use Rattle.ids.specs.declared.Found.the-variants as found
-use Rattle.ids.specs.declared.Room.{Room}
-use Rattle.ids.specs.declared.Room.the-variants as room
+use Rattle.judge.specs.Answer.{Answer, accepted, refused, isRefused, numberTold, onAccepted}
+use Rattle.judge.specs.Judge.{Conditions, ofAdd, numberOf}
+use Rattle.judge.specs.declared.Faults.{Faults}
+use Rattle.judge.proofs.Judged.{nothing-wrong}
 use Rattle.ids.proofs.Places.{lives-inside}
 use Rattle.laws.proofs.lemmas.Entries.{Holds}
 use Rattle.demands.specs.Conditions.{everyTaken}
+use Rattle.demands.specs.Order.{order, holds, firstIn}
+use Rattle.demands.proofs.lemmas.Asked.{judged-number, all-given}
 
 -- every slot of a list holds something
 inside-holds : {A : Type 0} (l : List A) (i : ℕ) → i < length l → (x : A) × Holds l i x
@@ -27,7 +32,7 @@ inside-holds (x ∷ l) (suc i) h = inside-holds l i (le-of-suc-le-suc h)
 
 module _ {A : Type 0} (ks : List Key) (es : List A) (w : length ks ≤ length es) (i g : ℕ) {P : Type 0} where
   -- no entry is found; or the id lives, and its slot is found
-  pub entry-case : (livesIn ks i g ≡ false → findOf ks i g ≡ found.Nothing → P) → (livesIn ks i g ≡ true → findOf ks i g ≡ found.At i → (x : A) → Holds es i x → P) → P
+  pub entry-case : (livesIn ks i g ≡ false → findOf ks i g ≡ noSuch → P) → (livesIn ks i g ≡ true → findOf ks i g ≡ accepted i → (x : A) → Holds es i x → P) → P
   unfolding findOf
   entry-case n h = go (livesIn ks i g) refl
     where
@@ -40,16 +45,28 @@ module _ {A : Type 0} (ks : List Key) (es : List A) (w : length ks ≤ length es
 
 -- ---- room
 
-pub data RoomIs : Room → Bool → Type 0 where
-  full : RoomIs room.Nothing true
-  free : (i g : ℕ) → RoomIs (room.At i g) false
-
-pub room-is : (ks : List Key) (n : ℕ) → RoomIs (freeOf n ks) (everyTaken ks)
+-- a search is refused exactly where every slot is occupied or retired
+pub room-is : (ks : List Key) (n : ℕ) → isRefused (freeOf n ks) ≡ everyTaken ks
 unfolding freeOf everyTaken
-room-is [] n = full
+room-is [] n = refl
 room-is (k ∷ ks) n = go (k .used) (ltb (k .generation) 4294967295) (room-is ks (n + 1))
   where
-    go : (u b : Bool) → RoomIs (freeOf (n + 1) ks) (everyTaken ks) → RoomIs (cond (not u && b) (room.At n (k .generation + 1)) (freeOf (n + 1) ks)) ((u || not b) && everyTaken ks)
+    go : (u b : Bool) → isRefused (freeOf (n + 1) ks) ≡ everyTaken ks → isRefused (cond (not u && b) (roomAt n (k .generation + 1)) (freeOf (n + 1) ks)) ≡ ((u || not b) && everyTaken ks)
     go true b r = r
-    go false true r = free n (k .generation + 1)
+    go false true r = refl
     go false false r = r
+
+-- an add has the number of its conditions, where its answer is made into another by f
+module _ {T E I D A : Type 0} (k : Table T E I D) (t : T) (g : Faults) (e : E) (f : I → A) where
+  pub add-number : numberTold (onAccepted f (addedTo k t g e .answer)) ≡ firstIn order (holds (ofAdd g (everyTaken (k .keysOf t))))
+  add-number = by (freeOf 0 (k .keysOf t)) (room-is (k .keysOf t) 0)
+    where
+      by : (w : Answer Place) → isRefused w ≡ everyTaken (k .keysOf t) → numberTold (onAccepted f (addedIn k t g e w .answer)) ≡ firstIn order (holds (ofAdd g (everyTaken (k .keysOf t))))
+      by (accepted (place i h)) r =
+          judged-number (λ (a : Added T I). numberTold (onAccepted f (a .answer))) (placedIn k t e (roomAt i h)) (refusedAdd k t (numberOf (ofAdd g false))) (numberOf (ofAdd g false)) refl refl
+          ∙ sym (all-given (ofAdd g false)) ∙ ap (λ (b : Bool). firstIn order (holds (ofAdd g b))) r
+      by (refused m) r = go (eqb (numberOf (ofAdd g true)) 0) (eqb-true (numberOf (ofAdd g true)) 0) ∙ sym (all-given (ofAdd g true)) ∙ ap (λ (b : Bool). firstIn order (holds (ofAdd g b))) r
+        where
+          go : (b : Bool) → (b ≡ true → numberOf (ofAdd g true) ≡ 0) → numberTold (onAccepted f (cond b (refusedAdd k t m) (refusedAdd k t (numberOf (ofAdd g true))) .answer)) ≡ numberOf (ofAdd g true)
+          go true h = absurd (true≢false (ap (λ (c : Conditions). c .noRoom) (nothing-wrong (ofAdd g true) (h refl))))
+          go false h = refl

@@ -12,14 +12,14 @@ use Rattle.doubles.specs.Doubles.{oneF}
 use Rattle.ids.specs.Lists.{readAt}
 use Rattle.ids.specs.declared.Key.{Key}
 use Rattle.ticks.specs.WholeTicks.{takenOf}
-use Rattle.ticks.specs.declared.Taken.{Taken}
-use Rattle.ticks.specs.declared.Taken.the-variants as taken
-use Rattle.judge.specs.Judge.{dtFaults, firstFault}
+use Rattle.ticks.specs.declared.Position.{Position}
+use Rattle.judge.specs.Answer.{Answer, accepted, refused, isRefused}
+use Rattle.judge.specs.Numbers.{«TOO_FAR», «TICKS_FULL»}
+use Rattle.judge.specs.Judge.{dtFaults, numberOf, firstFault}
 use Rattle.info.specs.declared.info.Info.{Info}
 use Rattle.parameter.specs.declared.speed.SpeedParameter.{SpeedParameter}
-use Rattle.clock.specs.OneClock.{positionOf, freshOf, advanceOf, sumOf, spedOf, noReport, byTaken, tickOf, updateClockOf}
+use Rattle.clock.specs.OneClock.{positionOf, freshOf, advanceOf, sumOf, spedOf, noReport, byTurn, tickOf, updateClockOf}
 use Rattle.clock.specs.declared.Clock.{Clock}
-use Rattle.clock.specs.declared.Moved.the-variants.{Is, Refused}
 use Rattle.clock.specs.declared.Reported.{Reported}
 use Rattle.modulator_table.specs.declared.Modulators.{Modulators}
 use Rattle.station.specs.Frames.{Try, went, stopped, seeing, watching, turned, modulatorsTurned, placed, then, clockTurn, clockTurns, closed, clocksTurned, noReports, undoneOf, framed, frameOf}
@@ -27,15 +27,16 @@ use Rattle.station.specs.Stations.{infoIn}
 use Rattle.station.specs.Turns.{turnClock}
 use Rattle.station.specs.declared.frame.Framed.{Framed}
 use Rattle.station.specs.declared.Station.{Station}
-use Rattle.demands.specs.Conditions.{spedIn, tooFarIn, isFull, ticksFullIn, slotIn, onward, lowestIn, inFrame}
+use Rattle.demands.specs.Conditions.{spedIn, tooFarIn, ticksFullIn, slotIn, onward, lowestIn, inFrame}
 
 -- ---- one slot's turn
 
--- it goes, with neither in the way; or it stops, by 9 where the advance is too far, whatever the ticks, and else by 10
+-- it goes, with neither in the way; or it stops, by TOO_FAR where the advance is so, whatever the ticks, and else by
+-- TICKS_FULL
 data Turn : Try → Bool → Bool → Type 0 where
   goes : (cs : List Clock) (rs : List Reported) → Turn (went cs rs) false false
-  far : (b : Bool) → Turn (stopped 9) true b
-  full : Turn (stopped 10) false true
+  far : (b : Bool) → Turn (stopped «TOO_FAR») true b
+  full : Turn (stopped «TICKS_FULL») false true
 
 -- what is read of one slot by three readers
 read-three :
@@ -49,28 +50,25 @@ read-three P p q r f g h n s (x ∷ l) (suc i) = read-three P p q r f g h n s l 
 module _ (info : Info) (dt : Float) (keys : List Key) where
   module _ (i : ℕ) (cs : List Clock) (rs : List Reported) where
     clock-turn : (c : Clock) → Turn (placed i cs rs (turnClock (watching info cs) c dt)) (tooFarIn (watching info cs) c dt) (ticksFullIn (watching info cs) c dt)
-    unfolding turnClock updateClockOf tickOf
+    unfolding turnClock updateClockOf tickOf numberOf
     clock-turn c = ticks (c .ticking)
       where
         speed : SpeedParameter
         speed = spedIn (watching info cs) c dt
 
-        took : Taken
+        took : Answer Position
         took = takenOf (positionOf (c .state) .ticks) (sumOf speed (c .state) dt)
 
         told : Bool
         told = freshOf (c .state) || le oneF (sumOf speed (c .state) dt)
 
-        by : (w : Taken) → Turn (placed i cs rs (byTaken speed told w)) false (isFull w)
-        by taken.Full = full
-        by (taken.At to) = goes _ _
+        advances : (b : Bool) (w : Answer Position) → Turn (placed i cs rs (byTurn speed told b w)) b (isRefused w)
+        advances true w = far (isRefused w)
+        advances false (refused n) = full
+        advances false (accepted to) = goes _ _
 
-        advances : (b : Bool) → Turn (placed i cs rs (cond b (Refused 9) (byTaken speed told took))) b (isFull took)
-        advances true = far (isFull took)
-        advances false = by took
-
-        ticks : (b : Bool) → Turn (placed i cs rs (cond b (tickOf speed (c .state) dt) (Is (record { clock = spedOf speed c; report = noReport })))) (b && lt (fin false 1 (pos 16)) (advanceOf speed dt)) (b && isFull took)
-        ticks true = advances (lt (fin false 1 (pos 16)) (advanceOf speed dt))
+        ticks : (b : Bool) → Turn (placed i cs rs (cond b (tickOf speed (c .state) dt) (accepted (record { clock = spedOf speed c; report = noReport })))) (b && lt (fin false 1 (pos 16)) (advanceOf speed dt)) (b && isRefused took)
+        ticks true = advances (lt (fin false 1 (pos 16)) (advanceOf speed dt)) took
         ticks false = goes _ _
 
     slot-turn : Turn (clockTurn info dt keys i cs rs) (slotIn tooFarIn info dt keys i cs) (slotIn ticksFullIn info dt keys i cs)
@@ -90,18 +88,18 @@ module _ (info : Info) (dt : Float) (keys : List Key) where
   numberBy (went cs rs) = 0
   numberBy (stopped n) = n
 
-  abbrev nineOrTen : ℕ → ℕ → List Clock → List Reported → ℕ
-  nineOrTen n i cs rs = cond (lowestIn tooFarIn info dt keys n i cs rs) 9 (cond (lowestIn ticksFullIn info dt keys n i cs rs) 10 0)
+  abbrev farOrFull : ℕ → ℕ → List Clock → List Reported → ℕ
+  farOrFull n i cs rs = cond (lowestIn tooFarIn info dt keys n i cs rs) «TOO_FAR» (cond (lowestIn ticksFullIn info dt keys n i cs rs) «TICKS_FULL» 0)
 
-  turns-number : (n i : ℕ) (cs : List Clock) (rs : List Reported) → numberBy (clockTurns info dt keys n i cs rs) ≡ nineOrTen n i cs rs
+  turns-number : (n i : ℕ) (cs : List Clock) (rs : List Reported) → numberBy (clockTurns info dt keys n i cs rs) ≡ farOrFull n i cs rs
   unfolding clockTurns lowestIn
   turns-number zero i cs rs = refl
   turns-number (suc n) i cs rs = go (clockTurn info dt keys i cs rs) _ _ (slot-turn i cs rs) (turns-number n (i + 1))
     where
       go :
-          (t : Try) (a b : Bool) → Turn t a b → ((ds : List Clock) (qs : List Reported) → numberBy (clockTurns info dt keys n (i + 1) ds qs) ≡ nineOrTen n (i + 1) ds qs)
+          (t : Try) (a b : Bool) → Turn t a b → ((ds : List Clock) (qs : List Reported) → numberBy (clockTurns info dt keys n (i + 1) ds qs) ≡ farOrFull n (i + 1) ds qs)
           → numberBy (then (clockTurns info dt keys n (i + 1)) t)
-          ≡ cond (a || onward (lowestIn tooFarIn info dt keys n (i + 1)) t) 9 (cond (b || onward (lowestIn ticksFullIn info dt keys n (i + 1)) t) 10 0)
+          ≡ cond (a || onward (lowestIn tooFarIn info dt keys n (i + 1)) t) «TOO_FAR» (cond (b || onward (lowestIn ticksFullIn info dt keys n (i + 1)) t) «TICKS_FULL» 0)
       go t a b (goes ds qs) ih = ih ds qs
       go t a b (far c) ih = refl
       go t a b full ih = refl
@@ -110,7 +108,7 @@ module _ (info : Info) (dt : Float) (keys : List Key) where
 
 pub frame-number :
     (st : Station) (dt : Float)
-    → frameOf st dt .refused ≡ cond (eqb (firstFault (dtFaults dt)) 0) (cond (inFrame tooFarIn st dt) 9 (cond (inFrame ticksFullIn st dt) 10 0)) (firstFault (dtFaults dt))
+    → frameOf st dt .refused ≡ cond (eqb (firstFault (dtFaults dt)) 0) (cond (inFrame tooFarIn st dt) «TOO_FAR» (cond (inFrame ticksFullIn st dt) «TICKS_FULL» 0)) (firstFault (dtFaults dt))
 unfolding frameOf modulatorsTurned clocksTurned
 frame-number st dt = go (eqb (firstFault (dtFaults dt)) 0)
   where
@@ -133,6 +131,6 @@ frame-number st dt = go (eqb (firstFault (dtFaults dt)) 0)
 
     go :
         (b : Bool) → cond b (framed st ms (closed (st .clocks) tried)) (undoneOf st (firstFault (dtFaults dt))) .refused
-        ≡ cond b (cond (inFrame tooFarIn st dt) 9 (cond (inFrame ticksFullIn st dt) 10 0)) (firstFault (dtFaults dt))
+        ≡ cond b (cond (inFrame tooFarIn st dt) «TOO_FAR» (cond (inFrame ticksFullIn st dt) «TICKS_FULL» 0)) (firstFault (dtFaults dt))
     go true = by tried ∙ turns-number seen dt (st .clocks .keys) 16 0 (st .clocks .clocks) noReports
     go false = refl

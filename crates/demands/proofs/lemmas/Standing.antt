@@ -11,15 +11,14 @@ use lib.Ieee.Fits.{add-fits}
 use Rattle.doubles.specs.Doubles.{oneF}
 use Rattle.ticks.specs.WholeTicks.{takenOf}
 use Rattle.ticks.specs.declared.Position.{Position}
-use Rattle.ticks.specs.declared.Taken.{Taken}
-use Rattle.ticks.specs.declared.Taken.the-variants.{At, Full}
+use Rattle.judge.specs.Answer.{Answer, accepted, refused}
+use Rattle.judge.specs.Judge.{numberOf}
 use Rattle.parameter.specs.SpeedParameters.{updateOf}
 use Rattle.parameter.specs.declared.speed.SpeedParameter.{SpeedParameter}
 use Rattle.info.specs.ParametersIn.{speedDueOf, speedSourceOf}
-use Rattle.clock.specs.OneClock.{positionOf, freshOf, advanceOf, sumOf, noReport, movedTo, byTaken, tickOf, updateClockOf}
+use Rattle.clock.specs.OneClock.{positionOf, freshOf, advanceOf, sumOf, noReport, movedTo, byTurn, tickOf, updateClockOf}
 use Rattle.clock.specs.declared.Clock.{Clock}
 use Rattle.clock.specs.declared.ClockState.the-variants.{Started}
-use Rattle.clock.specs.declared.Moved.the-variants.{Is, Refused}
 use Rattle.clock.specs.declared.Ticked.{Ticked}
 use Rattle.station.specs.Turns.{turnClock}
 use Rattle.laws.proofs.lemmas.OneTurn.{Turned}
@@ -43,7 +42,7 @@ place-is t f k v =
     ∙ sym (add-mul (t * 2 ^ 32) k (2 ^ 1042))
 
 -- whole ticks off the sum of the fraction and an advance
-pub moved : (p to : Position) (n : ℕ) (x : Float) → Standing p n → OnGrid x → takenOf (p .ticks) (add binary64 (p .fraction) x) ≡ At to → Standing to (n + scaled x)
+pub moved : (p to : Position) (n : ℕ) (x : Float) → Standing p n → OnGrid x → takenOf (p .ticks) (add binary64 (p .fraction) x) ≡ accepted to → Standing to (n + scaled x)
 moved p to n x s g e =
     let a = s .part in
     let b = g .count in
@@ -73,7 +72,7 @@ pub record Ticks (dt : Float) (c d : Clock) : Type 0 where
   pub ticking : d .ticking ≡ true
   pub to : Position
   pub state : d .state ≡ Started to
-  pub taken : takenOf (positionOf (c .state) .ticks) (sumOf (d .speed) (c .state) dt) ≡ At to
+  pub taken : takenOf (positionOf (c .state) .ticks) (sumOf (d .speed) (c .state) dt) ≡ accepted to
 
 module _ (dt : Float) (c d : Clock) (t : Turned dt c d) where
   -- the speed first
@@ -81,23 +80,20 @@ module _ (dt : Float) (c d : Clock) (t : Turned dt c d) where
   speed = updateOf (c .speed) dt (speedDueOf (t .seen) (c .speed)) (speedSourceOf (t .seen) (c .speed)) .parameter
 
   pub ticks : c .ticking ≡ true → Ticks dt c d
-  unfolding turnClock updateClockOf tickOf
+  unfolding turnClock updateClockOf tickOf numberOf
   ticks h = far (lt (fin false 1 (pos 16)) (advanceOf speed dt)) (rw h at (t .is))
     where
       told : Bool
       told = freshOf (c .state) || le oneF (sumOf speed (c .state) dt)
 
-      by : (w : Taken) → takenOf (positionOf (c .state) .ticks) (sumOf speed (c .state) dt) ≡ w → byTaken speed told w ≡ Is (record { clock = d; report = t .report }) → Ticks dt c d
-      by Full e i = absurd (no (cc))
-        where
-          no : _≡_ {A = ℕ} 0 1 → ⊥
-          no z = omega arith
-      by (At to) e i =
+      by : (w : Answer Position) → takenOf (positionOf (c .state) .ticks) (sumOf speed (c .state) dt) ≡ w → byTurn speed told false w ≡ accepted (record { clock = d; report = t .report }) → Ticks dt c d
+      by (refused n) e i = let z : _≡_ {A = ℕ} 0 1 = cc in absurd (omega arith)
+      by (accepted to) e i =
           let r : movedTo speed told to ≡ record { clock = d; report = t .report } = cc in
           subst (Ticks dt c) (ap (λ (q : Ticked). q .clock) r) (record { ticking = refl; to = to; state = refl; taken = e })
 
       far :
-          (b : Bool) → cond b (Refused 9) (byTaken speed told (takenOf (positionOf (c .state) .ticks) (sumOf speed (c .state) dt))) ≡ Is (record { clock = d; report = t .report })
+          (b : Bool) → byTurn speed told b (takenOf (positionOf (c .state) .ticks) (sumOf speed (c .state) dt)) ≡ accepted (record { clock = d; report = t .report })
           → Ticks dt c d
       far true i = let z : _≡_ {A = ℕ} 0 1 = cc in absurd (omega arith)
       far false i = by (takenOf (positionOf (c .state) .ticks) (sumOf speed (c .state) dt)) refl i
@@ -108,7 +104,7 @@ module _ (dt : Float) (c d : Clock) (t : Turned dt c d) where
   rests h =
       let now : Clock = record { ticking = false; speed = speed; state = c .state } in
       let was : Ticked = record { clock = now; report = noReport } in
-      let i : Is was ≡ Is (record { clock = d; report = t .report }) = rw h at (t .is) in
+      let i : accepted was ≡ accepted (record { clock = d; report = t .report }) = rw h at (t .is) in
       let r : was ≡ record { clock = d; report = t .report } = cc in
       let e : now ≡ d = ap (λ (q : Ticked). q .clock) r in
       (sym (ap (λ (q : Clock). q .ticking) e), sym (ap (λ (q : Clock). q .state) e))

@@ -8,6 +8,7 @@ use lib.Ieee.{Float, binary64, add, le}
 use borrow.Author.Tests.{eqb-false}
 use Rattle.times.specs.Durations.{secondsOf}
 use Rattle.judge.specs.Judge.{badDt, dtFaults, firstFault}
+use Rattle.judge.specs.Numbers.{«BAD_DT»}
 use Rattle.times.specs.declared.time.ClockTime.{ClockTime}
 use Rattle.times.specs.declared.start_time.StartTime.{StartTime}
 use Rattle.times.specs.declared.start_time.StartTime.the-variants.{At}
@@ -28,7 +29,7 @@ use Rattle.demands.specs.Kinds.{Progress, resting, running, passed, Kind
 -- ---- refusals
 
 -- an update is refused by its dt alone
-pub dt-bad : (dt : Float) → badDt dt ≡ true → firstFault (dtFaults dt) ≡ 1
+pub dt-bad : (dt : Float) → badDt dt ≡ true → firstFault (dtFaults dt) ≡ «BAD_DT»
 unfolding firstFault
 dt-bad dt e = rw e
 
@@ -90,7 +91,7 @@ pub record Shape (k : Kind) : Type 1 where
   -- the caller's update is the one by the start test and the modulator's value
   pub sees : (p : k .Parameter) (info : Info) (dt : Float) (x : When) → Asked info x (k .progress p) → k .updateIn info p dt ≡ k .advance p dt x (k .source info p)
   -- dt alone decides whether it is refused, and a refused one hands back what came in: RULES, bad-dt and refusal
-  pub refuses : (p : k .Parameter) (dt : Float) (x : When) (i : Input) → badDt dt ≡ true → (k .refused (k .advance p dt x i) ≡ 1) × (k .left (k .advance p dt x i) ≡ p)
+  pub refuses : (p : k .Parameter) (dt : Float) (x : When) (i : Input) → badDt dt ≡ true → (k .refused (k .advance p dt x i) ≡ «BAD_DT») × (k .left (k .advance p dt x i) ≡ p)
   pub accepts : (p : k .Parameter) (dt : Float) (x : When) (i : Input) → badDt dt ≡ false → k .refused (k .advance p dt x i) ≡ 0
   -- at rest it stays there, and under way it takes the step of its course: RULES, at-rest and step
   pub steps :

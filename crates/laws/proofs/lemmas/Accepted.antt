@@ -11,9 +11,9 @@ use borrow.Author.Tests.{eqb-true}
 use Rattle.doubles.specs.Doubles.{zeroF}
 use Rattle.doubles.specs.Intervals.{Between}
 use Rattle.doubles.proofs.Unit.{order→le, le-of-not-lt}
-use Rattle.judge.specs.Judge.{noFaults, bothFaults, dtFaults, badDt, firstFault}
+use Rattle.judge.specs.Judge.{Conditions, ofAdd, noFaults, bothFaults, dtFaults, badDt, numberOf, firstFault}
 use Rattle.judge.specs.declared.Faults.{Faults}
-use Rattle.judge.proofs.Judged.{none-set}
+use Rattle.judge.proofs.Judged.{none-set, nothing-wrong}
 use Rattle.values.proofs.clock_speed.Rates.{neither}
 
 none : (f : Faults) → f .dt ≡ false → f .float ≡ false → f .speed ≡ false → f .ease ≡ false → f .map ≡ false → f .time ≡ false → f ≡ noFaults
@@ -55,4 +55,12 @@ judged-case P f x y h k = go (eqb (firstFault f) 0) (eqb-true (firstFault f) 0)
   where
     go : (b : Bool) → (b ≡ true → firstFault f ≡ 0) → P (cond b x y)
     go true e = h (none-set f (e refl))
+    go false e = k
+
+-- the same of an add, which is judged by whether there is room too
+pub add-case : {A : Type 0} (P : A → Type 0) (f : Faults) (r : Bool) (x y : A) → (f ≡ noFaults → P x) → P y → P (cond (eqb (numberOf (ofAdd f r)) 0) x y)
+add-case P f r x y h k = go (eqb (numberOf (ofAdd f r)) 0) (eqb-true (numberOf (ofAdd f r)) 0)
+  where
+    go : (b : Bool) → (b ≡ true → numberOf (ofAdd f r) ≡ 0) → P (cond b x y)
+    go true e = h (ap (λ (c : Conditions). c .faults) (nothing-wrong (ofAdd f r) (e refl)))
     go false e = k

@@ -13,16 +13,15 @@ use borrow.Author.Tests.{ltb-false}
 use Rattle.doubles.specs.Doubles.{zeroF, oneF, signOf, wholeOf}
 use Rattle.doubles.specs.Intervals.{Between}
 use Rattle.doubles.proofs.Unit.{le-same, le-of-lt, le-of-not-lt, between-is, between-finite, finite-is, on-of-between, add-mono, mul-mono}
-use Rattle.ids.specs.Keys.{freeOf, livesIn}
-use Rattle.ids.specs.declared.Room.{Room}
-use Rattle.ids.specs.declared.Room.the-variants as room
+use Rattle.ids.specs.Keys.{Place, place, freeOf, livesIn}
+use Rattle.judge.specs.Answer.{Answer, accepted, refused, isRefused}
+use Rattle.judge.specs.Numbers.{«NO_SUCH»}
 use Rattle.ids.proofs.Names as names
 use Rattle.ticks.specs.WholeTicks.{roomFor, takenOf}
-use Rattle.ticks.specs.declared.Taken.{Taken}
-use Rattle.ticks.specs.declared.Taken.the-variants.{At, Full}
+use Rattle.ticks.specs.declared.Position.{Position}
 use Rattle.ticks.proofs.Parts.{ticksOf}
 use Rattle.ticks.proofs.Sums.{reached, kept, room}
-use Rattle.judge.specs.Judge.{noFaults, dtFaults, firstFault}
+use Rattle.judge.specs.Judge.{noFaults, dtFaults, numberOf}
 use Rattle.values.specs.Speeds.{tpsOf}
 use Rattle.times.specs.declared.start_time.When.{When}
 use Rattle.times.specs.declared.time.ClockId.{ClockId}
@@ -31,22 +30,20 @@ use Rattle.values.specs.declared.value.Input.{Input}
 use Rattle.values.specs.declared.value.SpeedValue.{SpeedValue}
 use Rattle.parameter.specs.SpeedParameters.{trySetOf, updateOf}
 use Rattle.parameter.specs.declared.speed.SpeedParameter.{SpeedParameter}
-use Rattle.clock.specs.OneClock.{defaultSpeed, newClock, positionOf, freshOf, advanceOf, sumOf, byTaken, noReport, tickingOf, spedOf, resetOf, tickOf, updateClockOf}
-use Rattle.ids.specs.Tables.{refusedCall, refusedAdd, whereIs, onFound, changed, freed, addedIn}
+use Rattle.clock.specs.OneClock.{defaultSpeed, newClock, positionOf, freshOf, advanceOf, sumOf, byTurn, noReport, tickingOf, spedOf, resetOf, tickOf, updateClockOf}
+use Rattle.ids.specs.Tables.{Added, refusedCall, refusedAdd, whereIs, onFound, changed, freed, placedIn}
 use Rattle.clock_table.specs.ClockTables.{clockTable, addClockOf, bySet, removeOf, tickOnOf, resetClockOf, setSpeedOf}
 use Rattle.clock.specs.declared.Clock.{Clock}
 use Rattle.clock.specs.declared.ClockState.{ClockState}
-use Rattle.clock.specs.declared.Moved.{Moved}
-use Rattle.clock.specs.declared.Moved.the-variants.{Is, Refused}
+use Rattle.clock.specs.declared.Ticked.{Ticked}
 use Rattle.clock_table.specs.declared.Clocks.{Clocks}
-use Rattle.clock_table.specs.declared.ClockAdded.{ClockAdded}
 use Rattle.clock_table.specs.declared.ClockDone.{ClockDone}
 use Rattle.commands.specs.ClockCommands.{runClockOf}
 use Rattle.commands.specs.declared.clock_command.ClockCommand.{ClockCommand}
 use Rattle.commands.specs.declared.clock_command.ClockCommand.the-variants as command
 use Rattle.laws.specs.Sound.{SpeedDoubles, SoundInput, SoundSpeed}
 use Rattle.laws.specs.SoundStation.{SoundPosition, SoundClock, SoundClocks, ClockDoubles}
-use Rattle.laws.proofs.lemmas.Accepted.{dt-range, judged-case}
+use Rattle.laws.proofs.lemmas.Accepted.{dt-range, add-case}
 use Rattle.laws.proofs.lemmas.Clear.{fraction-of, fraction-range, add-clear, fract-clear}
 use Rattle.laws.proofs.lemmas.Deeds.{cond-case, found-case}
 use Rattle.laws.proofs.lemmas.Every.{all-set, all-read}
@@ -61,14 +58,14 @@ pub new-clock : (v : SpeedValue) → SpeedDoubles v → speedValueFaults v ≡ n
 new-clock v F h = record { speed = new-sound v defaultSpeed F (unfold fits in tt) h (unfold eq le in refl); position = at-rest }
 
 -- a time with a fraction that is a double, its sign clear where it is finite, and with ticks up to 2^64 − 1, or none
-abbrev Roomy : Taken → Type 0
-Roomy (At p) = T (fits binary64 (p .fraction)) × (T (finite (p .fraction)) → signOf (p .fraction) ≡ false) × (p .ticks < 2 ^ 64)
-Roomy Full = Unit {0}
+abbrev Roomy : Answer Position → Type 0
+Roomy (accepted p) = T (fits binary64 (p .fraction)) × (T (finite (p .fraction)) → signOf (p .fraction) ≡ false) × (p .ticks < 2 ^ 64)
+Roomy (refused n) = Unit {0}
 
 -- a sound time, or none
-abbrev SoundTaken : Taken → Type 0
-SoundTaken (At p) = SoundPosition p
-SoundTaken Full = Unit {0}
+abbrev SoundTaken : Answer Position → Type 0
+SoundTaken (accepted p) = SoundPosition p
+SoundTaken (refused n) = Unit {0}
 
 module _ (n : ℕ) (x : Float) (N : n < 2 ^ 64) (F : T (fits binary64 x)) (H : T (finite x)) (s : signOf x ≡ false) where
   taken-roomy : Roomy (takenOf n x)
@@ -83,19 +80,19 @@ module _ (n : ℕ) (x : Float) (N : n < 2 ^ 64) (F : T (fits binary64 x)) (H : T
   taken-sound : T (le zeroF x) → SoundTaken (takenOf n x)
   taken-sound h = go (takenOf n x) refl taken-roomy
     where
-      go : (t : Taken) → takenOf n x ≡ t → Roomy t → SoundTaken t
-      go (At p) e q =
+      go : (t : Answer Position) → takenOf n x ≡ t → Roomy t → SoundTaken t
+      go (accepted p) e q =
           let r = reached n x p F H h e in
           let i : T (finite (p .fraction)) = between-finite zeroF (p .fraction) oneF tt tt (record { least = r .least; most = le-of-lt (p .fraction) oneF (r .below) }) in
           record { double = q .0; accepted = fraction-of (p .fraction) (q .1 i) (r .below); room = q .2 }
-      go Full e q = tt
+      go (refused n) e q = tt
 
 -- a sound clock, or a refusal
-abbrev pub SoundMoved : Moved → Type 0
-SoundMoved (Is t) = SoundClock (t .clock)
-SoundMoved (Refused n) = Unit {0}
+abbrev pub SoundMoved : Answer Ticked → Type 0
+SoundMoved (accepted t) = SoundClock (t .clock)
+SoundMoved (refused n) = Unit {0}
 
--- 9 is given to an advance beyond this: RULES, too-far
+-- TOO_FAR is given to an advance beyond this: RULES, too-far
 abbrev farthest : Float
 farthest = fin false 1 (pos 16)
 
@@ -108,15 +105,15 @@ module _ (p : SpeedParameter) (s : SoundSpeed p) (dt : Float) (h : dtFaults dt �
       record { least = b .least; most = le-of-not-lt farthest (advanceOf p dt) (unfold isNan in refl) (between-is zeroF (advanceOf p dt) _ b) l }
 
   tick-sound : (st : ClockState) → SoundPosition (positionOf st) → SoundMoved (tickOf p st dt)
-  unfolding tickOf
+  unfolding tickOf numberOf
   tick-sound st q = go (lt farthest (advanceOf p dt)) advance-range
     where
       told : Bool
       told = freshOf st || le oneF (sumOf p st dt)
 
-      stands : (t : Taken) → SoundTaken t → SoundMoved (byTaken p told t)
-      stands (At to) k = record { speed = s; position = k }
-      stands Full k = tt
+      stands : (t : Answer Position) → SoundTaken t → SoundMoved (byTurn p told false t)
+      stands (accepted to) k = record { speed = s; position = k }
+      stands (refused n) k = tt
 
       g : Float
       g = positionOf st .fraction
@@ -130,7 +127,7 @@ module _ (p : SpeedParameter) (s : SoundSpeed p) (dt : Float) (h : dtFaults dt �
           let i : T (finite (sumOf p st dt)) = between-finite zeroF (sumOf p st dt) (add binary64 oneF farthest) tt (unfold add in tt) r in
           (i, add-clear binary64 g (advanceOf p dt) (between-finite zeroF g oneF tt tt b) (f .0) (on-of-between (advanceOf p dt) farthest a tt) i, r .least)
 
-      go : (b : Bool) → (b ≡ false → Between zeroF (advanceOf p dt) farthest) → SoundMoved (cond b (Refused 9) (byTaken p told (takenOf (positionOf st .ticks) (sumOf p st dt))))
+      go : (b : Bool) → (b ≡ false → Between zeroF (advanceOf p dt) farthest) → SoundMoved (byTurn p told b (takenOf (positionOf st .ticks) (sumOf p st dt)))
       go true k = tt
       go false k =
           let r = summed (k refl) in
@@ -142,7 +139,7 @@ unfolding updateClockOf
 update-clock c dt w i s h k =
     let p : SpeedParameter = updateOf (c .speed) dt w i .parameter in
     let q : SoundSpeed p = update-sound (c .speed) (s .speed) dt w i h k in
-    cond-case SoundMoved (tickOf p (c .state) dt) (Is (record { clock = spedOf p c; report = noReport }))
+    cond-case SoundMoved (tickOf p (c .state) dt) (accepted (record { clock = spedOf p c; report = noReport }))
     (tick-sound p q dt h (c .state) (s .position)) (record { speed = q; position = s .position }) (c .ticking)
 
 -- ---- the table
@@ -154,12 +151,12 @@ module _ (t : Clocks) (s : SoundClocks t) where
   added-sound : (v : SpeedValue) → SpeedDoubles v → SoundClocks (addClockOf t v .table)
   unfolding addClockOf
   added-sound v F =
-      judged-case (λ (r : ClockAdded). SoundClocks (r .table)) (speedValueFaults v) (addedIn clockTable t (newClock v) (freeOf 0 (t .keys))) (refusedAdd clockTable t (firstFault (speedValueFaults v)))
+      add-case (λ (r : Added Clocks ClockId). SoundClocks (r .table)) (speedValueFaults v) (isRefused (freeOf 0 (t .keys))) (placedIn clockTable t (newClock v) (freeOf 0 (t .keys))) _
       (λ h. put h (freeOf 0 (t .keys)) refl) s
     where
-      put : speedValueFaults v ≡ noFaults → (w : Room) → freeOf 0 (t .keys) ≡ w → SoundClocks (addedIn clockTable t (newClock v) w .table)
-      put h room.Nothing e = s
-      put h (room.At i g) e = record { keys = names.add-numbered (t .keys) i g e (s .keys); entries = all-set SoundClock (t .clocks) i (newClock v) (new-clock v F h) (s .entries) }
+      put : speedValueFaults v ≡ noFaults → (w : Answer Place) → freeOf 0 (t .keys) ≡ w → SoundClocks (placedIn clockTable t (newClock v) w .table)
+      put h (refused n) e = s
+      put h (accepted (place i g)) e = record { keys = names.add-numbered (t .keys) i g e (s .keys); entries = all-set SoundClock (t .clocks) i (newClock v) (new-clock v F h) (s .entries) }
 
   module _ (id : ClockId) where
     on-found :
@@ -167,7 +164,7 @@ module _ (t : Clocks) (s : SoundClocks t) where
         → SoundClocks (onFound clockTable t (whereIs clockTable t id) f .table)
     on-found f h =
         found-case (λ w. SoundClocks (onFound clockTable t w f .table)) (t .keys) (id .slot) (id .generation) s (λ l.
-        all-read SoundClock (λ (r : ClockDone). SoundClocks (r .table)) (refusedCall clockTable t 7) (f (id .slot)) s (λ c k. h c l k) (t .clocks) (id .slot) (s .entries))
+        all-read SoundClock (λ (r : ClockDone). SoundClocks (r .table)) (refusedCall clockTable t «NO_SUCH») (f (id .slot)) s (λ c k. h c l k) (t .clocks) (id .slot) (s .entries))
 
     -- by a clock that is sound where the one that was there is
     remade : (f : Clock → Clock) → ((c : Clock) → SoundClock c → SoundClock (f c)) → SoundClocks (onFound clockTable t (whereIs clockTable t id) (λ i c. changed clockTable t i (f c)) .table)

@@ -8,18 +8,17 @@ use mathlib.Core.List.{List, [], _∷_}
 use lib.ListN.{set}
 use lib.Dec.{eqb}
 use lib.Ieee.{Float}
-use Rattle.ids.specs.Keys.{freeOf, livesIn, findOf, takenAt, leftAt}
+use Rattle.ids.specs.Keys.{Place, place, roomAt, freeOf, livesIn, noSuch, findOf, takenAt, leftAt}
 use Rattle.ids.specs.Lists.{readAt}
-use Rattle.ids.specs.Tables.{addedIn, changed, freed, onFound, refusedAdd, refusedCall, whereIs}
+use Rattle.ids.specs.Tables.{Added, placedIn, changed, freed, onFound, refusedAdd, refusedCall, whereIs}
 use Rattle.ids.specs.declared.Key.{Key}
-use Rattle.ids.specs.declared.Room.{Room}
-use Rattle.ids.specs.declared.Room.the-variants as room
-use Rattle.ids.specs.declared.Found.{Found}
-use Rattle.ids.specs.declared.Found.the-variants as found
-use Rattle.judge.specs.Answer.{Answer, accepted, refused}
-use Rattle.judge.specs.Judge.{floatFaults, dtFaults, firstFault}
+use Rattle.judge.specs.Answer.{Answer, accepted, refused, isRefused, onAccepted}
+use Rattle.judge.specs.Judge.{ofAdd, numberOf, floatFaults, dtFaults, firstFault}
+use Rattle.judge.specs.Numbers.{«NO_SUCH»}
 use Rattle.judge.specs.declared.Faults.{Faults}
 use Rattle.times.specs.declared.time.ClockId.{ClockId}
+use Rattle.times.specs.declared.time.ClockTime.{ClockTime}
+use Rattle.values.specs.declared.clock_speed.ClockSpeed.{ClockSpeed}
 use Rattle.values.specs.Values.{speedValueFaults}
 use Rattle.waveform.specs.Waves.{waveFaults}
 use Rattle.values.specs.declared.value.ModulatorId.{ModulatorId}
@@ -41,25 +40,21 @@ use Rattle.modulator_table.specs.declared.Modulator.the-variants.{OfTweener, Of
 use Rattle.modulator_table.specs.declared.Modulators.{Modulators}
 use Rattle.modulator_table.specs.declared.ModulatorDone.{ModulatorDone}
 use Rattle.modulator_table.specs.declared.Slot.{Slot}
+use Rattle.commands.specs.Answers as answers
+use Rattle.commands.specs.Answers.{Given, byNumber, Left}
 use Rattle.commands.specs.ClockCommands as clockRuns
 use Rattle.commands.specs.ClockCommands.{runClockOf}
 use Rattle.commands.specs.ModulatorCommands as modulatorRuns
 use Rattle.commands.specs.ModulatorCommands.{runModulatorOf}
 use Rattle.commands.specs.declared.clock_command.ClockCommand.{ClockCommand}
 use Rattle.commands.specs.declared.clock_command.ClockCommand.the-variants as clockCommand
-use Rattle.commands.specs.declared.clock_command.ClockAnswer.{ClockAnswer}
-use Rattle.commands.specs.declared.clock_command.ClockAnswer.the-variants as clockAnswer
-use Rattle.commands.specs.declared.clock_command.ClockRan.{ClockRan}
 use Rattle.commands.specs.declared.modulator_command.ModulatorCommand.{ModulatorCommand}
 use Rattle.commands.specs.declared.modulator_command.ModulatorCommand.the-variants as modulatorCommand
-use Rattle.commands.specs.declared.modulator_command.ModulatorAnswer.{ModulatorAnswer}
-use Rattle.commands.specs.declared.modulator_command.ModulatorAnswer.the-variants as modulatorAnswer
-use Rattle.commands.specs.declared.modulator_command.ModulatorRan.{ModulatorRan}
 use Rattle.station.specs.Stations.{infoIn}
 use Rattle.station.specs.Frames.{Try, went, stopped, seeing, turned, clockTurns, modulatorsTurned, clocksTurned, noReports, closed, undoneOf, framed, frameOf}
 use Rattle.station.specs.declared.frame.Framed.{Framed}
 use Rattle.station.specs.declared.Station.{Station}
-use Rattle.laws.specs.Calls.{Call, clock, modulator, frame, after, Kind, ofClock, ofModulator, keysOf, entriesOf, Told, refusal, named, done, clockTold, modulatorTold, frameTold, told, Target, entry, none, all, clockTarget, modulatorTarget, targetOf}
+use Rattle.laws.specs.Calls.{Call, clock, modulator, frame, after, Kind, ofClock, ofModulator, keysOf, entriesOf, Told, refusal, named, done, told, Target, entry, none, all, clockTarget, modulatorTarget, targetOf}
 
 -- the answer gives no id of this kind
 abbrev Unnamed : Kind → Told → Type 0
@@ -70,7 +65,7 @@ pub data Deed {A : Type 0} (k : Kind) (ks : List Key) (es : List A) : Target →
   leaves : (a : Target) (o : Told) → Unnamed k o → Deed k ks es a o ks es
   changes : (i g : ℕ) (x : A) → livesIn ks i g ≡ true → Deed k ks es (entry k i g) done ks (set es i x)
   removes : (i g : ℕ) → livesIn ks i g ≡ true → Deed k ks es (entry k i g) done (set ks i (leftAt g)) es
-  adds : (i g : ℕ) (x : A) → freeOf 0 ks ≡ room.At i g → Deed k ks es none (named k i g) (set ks i (takenAt g)) (set es i x)
+  adds : (i g : ℕ) (x : A) → freeOf 0 ks ≡ roomAt i g → Deed k ks es none (named k i g) (set ks i (takenAt g)) (set es i x)
   turns : (fs : List A) → Deed k ks es all done ks fs
 
 -- ---- a test, and a lookup
@@ -79,11 +74,11 @@ pub cond-case : {A : Type 0} (P : A → Type 0) (x y : A) → P x → P y → (b
 cond-case P x y p q true = p
 cond-case P x y p q false = q
 
-pub found-case : (P : Found → Type 0) (ks : List Key) (i g : ℕ) → P found.Nothing → (livesIn ks i g ≡ true → P (found.At i)) → P (findOf ks i g)
+pub found-case : (P : Answer ℕ → Type 0) (ks : List Key) (i g : ℕ) → P noSuch → (livesIn ks i g ≡ true → P (accepted i)) → P (findOf ks i g)
 unfolding findOf
 found-case P ks i g n h = go (livesIn ks i g) refl
   where
-    go : (b : Bool) → livesIn ks i g ≡ b → P (cond b (found.At i) found.Nothing)
+    go : (b : Bool) → livesIn ks i g ≡ b → P (cond b (accepted i) noSuch)
     go true l = h l
     go false l = n
 
@@ -101,38 +96,59 @@ unnamed-done k i g e = let z : _≡_ {A = ℕ} 0 1 = cc in omega arith
 unnamed-refusal : (k : Kind) (n : ℕ) → Unnamed k (refusal n)
 unnamed-refusal k n i g e = let z : _≡_ {A = ℕ} 0 1 = cc in omega arith
 
-unnamed-number : (k : Kind) (n : ℕ) → Unnamed k (frameTold n)
+unnamed-number : (k : Kind) (n : ℕ) → Unnamed k (byNumber n)
 unnamed-number k n = cond-case (Unnamed k) done (refusal n) (unnamed-done k) (unnamed-refusal k n) (eqb n 0)
 
 -- what is read is a value or a refusal
-unnamed-read : {A : Type 0} (k : Kind) (f : Answer A → Told) → ((x : A) → f (accepted x) ≡ done) → ((n : ℕ) → f (refused n) ≡ refusal n) → (a : Answer A) → Unnamed k (f a)
-unnamed-read k f h r (accepted x) = rw (h x) (unnamed-done k)
-unnamed-read k f h r (refused n) = rw (r n) (unnamed-refusal k n)
+unnamed-read : {A : Type 0} (k : Kind) (f : A → Given) → ((x : A) → Unnamed k (accepted (f x))) → (a : Answer A) → Unnamed k (onAccepted f a)
+unnamed-read k f h (accepted x) = h x
+unnamed-read k f h (refused n) = unnamed-refusal k n
+
+unnamed-time : (k : Kind) (t : ClockTime) → Unnamed k (accepted (answers.time t))
+unnamed-time k t i g e = let z : _≡_ {A = ℕ} 0 1 = cc in omega arith
+
+unnamed-flag : (k : Kind) (b : Bool) → Unnamed k (accepted (answers.flag b))
+unnamed-flag k b i g e = let z : _≡_ {A = ℕ} 0 1 = cc in omega arith
+
+unnamed-speed : (k : Kind) (v : ClockSpeed) → Unnamed k (accepted (answers.speed v))
+unnamed-speed k v i g e = let z : _≡_ {A = ℕ} 0 1 = cc in omega arith
+
+unnamed-value : (k : Kind) (x : Float) → Unnamed k (accepted (answers.value x))
+unnamed-value k x i g e = let z : _≡_ {A = ℕ} 0 1 = cc in omega arith
 
 -- the answer of a call on one table gives no id of the other
-unnamed-modulator : (a : ClockAnswer) → Unnamed ofModulator (clockTold a)
-unnamed-modulator clockAnswer.Done = unnamed-done ofModulator
-unnamed-modulator (clockAnswer.Id id) = λ i g e. let z : _≡_ {A = ℕ} 0 1 = cc in omega arith
-unnamed-modulator (clockAnswer.Time t) = unnamed-done ofModulator
-unnamed-modulator (clockAnswer.Flag b) = unnamed-done ofModulator
-unnamed-modulator (clockAnswer.Speed s) = unnamed-done ofModulator
-unnamed-modulator (clockAnswer.Refused n) = unnamed-refusal ofModulator n
+unnamed-modulator : (t : Clocks) (c : ClockCommand) → Unnamed ofModulator (runClockOf t c .answer)
+unfolding runClockOf
+unnamed-modulator t (clockCommand.Add v) = unnamed-read ofModulator (λ id. answers.named ofClock (id .slot) (id .generation)) (λ id i g e. let z : _≡_ {A = ℕ} 0 1 = cc in omega arith) (clocks.addClockOf t v .answer)
+unnamed-modulator t (clockCommand.Remove id) = unnamed-number ofModulator (clocks.removeOf t id .refused)
+unnamed-modulator t (clockCommand.Start id) = unnamed-number ofModulator (clocks.tickOnOf true t id .refused)
+unnamed-modulator t (clockCommand.Stop id) = unnamed-number ofModulator (clocks.tickOnOf false t id .refused)
+unnamed-modulator t (clockCommand.Reset id) = unnamed-number ofModulator (clocks.resetClockOf t id .refused)
+unnamed-modulator t (clockCommand.SetSpeed id v w) = unnamed-number ofModulator (clocks.setSpeedOf t id v w .refused)
+unnamed-modulator t (clockCommand.Time id) = unnamed-read ofModulator answers.time (unnamed-time ofModulator) (clocks.clockTimeOf t id)
+unnamed-modulator t (clockCommand.Ticking id) = unnamed-read ofModulator answers.flag (unnamed-flag ofModulator) (clocks.clockTickingOf t id)
+unnamed-modulator t (clockCommand.Speed id) = unnamed-read ofModulator answers.speed (unnamed-speed ofModulator) (clocks.clockSpeedOf t id)
 
-unnamed-clock : (a : ModulatorAnswer) → Unnamed ofClock (modulatorTold a)
-unnamed-clock modulatorAnswer.Done = unnamed-done ofClock
-unnamed-clock (modulatorAnswer.Id id) = λ i g e. let z : _≡_ {A = ℕ} 0 1 = cc in omega arith
-unnamed-clock (modulatorAnswer.Value x) = unnamed-done ofClock
-unnamed-clock (modulatorAnswer.Refused n) = unnamed-refusal ofClock n
+unnamed-clock : (t : Modulators) (c : ModulatorCommand) → Unnamed ofClock (runModulatorOf t c .answer)
+unfolding runModulatorOf
+unnamed-clock t (modulatorCommand.AddTweener x) = unnamed-read ofClock (λ id. answers.named ofModulator (id .slot) (id .generation)) (λ id i g e. let z : _≡_ {A = ℕ} 0 1 = cc in omega arith) (modulators.addTweenerOf t x .answer)
+unnamed-clock t (modulatorCommand.AddLfo b) = unnamed-read ofClock (λ id. answers.named ofModulator (id .slot) (id .generation)) (λ id i g e. let z : _≡_ {A = ℕ} 0 1 = cc in omega arith) (modulators.addLfoOf t b .answer)
+unnamed-clock t (modulatorCommand.Remove id) = unnamed-number ofClock (modulators.removeOf t id .refused)
+unnamed-clock t (modulatorCommand.SetTweener id x w) = unnamed-number ofClock (modulators.setTweenerOf t id x w .refused)
+unnamed-clock t (modulatorCommand.SetParameter id k v w) = unnamed-number ofClock (modulators.setParameterOf t id k v w .refused)
+unnamed-clock t (modulatorCommand.SetWaveform id w) = unnamed-number ofClock (modulators.setWaveformOf t id w .refused)
+unnamed-clock t (modulatorCommand.SetPhase id x) = unnamed-number ofClock (modulators.setPhaseOf t id x .refused)
+unnamed-clock t (modulatorCommand.Value id) = unnamed-read ofClock answers.value (unnamed-value ofClock) (modulators.modulatorValueOf t id)
 
 -- ---- calls on clocks
 
 module _ (t : Clocks) where
-  abbrev ClockDeed : Target → ClockRan → Type 0
-  ClockDeed a r = Deed ofClock (t .keys) (t .clocks) a (clockTold (r .answer)) (r .table .keys) (r .table .clocks)
+  abbrev ClockDeed : Target → Left Clocks → Type 0
+  ClockDeed a r = Deed ofClock (t .keys) (t .clocks) a (r .answer) (r .table .keys) (r .table .clocks)
 
   clock-refused : (a : Target) (n : ℕ) → ClockDeed a (clockRuns.doneAs (refusedCall clocks.clockTable t n))
   clock-refused a n =
-      cond-case (λ (r : ClockAnswer). ClockDeed a (record { answer = r; table = t })) clockAnswer.Done (clockAnswer.Refused n)
+      cond-case (λ (r : Told). ClockDeed a (record { answer = r; table = t })) done (refusal n)
       (leaves a done (unnamed-done ofClock)) (leaves a (refusal n) (unnamed-refusal ofClock n)) (eqb n 0)
 
   module _ (id : ClockId) where
@@ -144,8 +160,8 @@ module _ (t : Clocks) where
 
     on-clock : (f : ℕ → Clock → ClockDone) → ((c : Clock) → ClockAlive → OnClock (f (id .slot) c)) → OnClock (onFound clocks.clockTable t (whereIs clocks.clockTable t id) f)
     on-clock f h =
-        found-case (λ w. OnClock (onFound clocks.clockTable t w f)) (t .keys) (id .slot) (id .generation) (clock-refused _ 7) (λ l.
-        read-case OnClock (refusedCall clocks.clockTable t 7) (f (id .slot)) (clock-refused _ 7) (λ c. h c l) (t .clocks) (id .slot))
+        found-case (λ w. OnClock (onFound clocks.clockTable t w f)) (t .keys) (id .slot) (id .generation) (clock-refused _ «NO_SUCH») (λ l.
+        read-case OnClock (refusedCall clocks.clockTable t «NO_SUCH») (f (id .slot)) (clock-refused _ «NO_SUCH») (λ c. h c l) (t .clocks) (id .slot))
 
     -- changed where a number is 0, and refused by it elsewhere
     clock-changed : (n : ℕ) (c : Clock) → ClockAlive → OnClock (cond (eqb n 0) (changed clocks.clockTable t (id .slot) c) (refusedCall clocks.clockTable t n))
@@ -156,13 +172,13 @@ module _ (t : Clocks) where
   clock-added : (v : SpeedValue) → ClockDeed none (clockRuns.addedAs (clocks.addClockOf t v))
   unfolding clocks.addClockOf
   clock-added v =
-      let n : ℕ = firstFault (speedValueFaults v) in
-      cond-case (λ r. ClockDeed none (clockRuns.addedAs r)) (addedIn clocks.clockTable t (newClock v) (freeOf 0 (t .keys))) (refusedAdd clocks.clockTable t n)
+      let n : ℕ = numberOf (ofAdd (speedValueFaults v) (isRefused (freeOf 0 (t .keys)))) in
+      cond-case (λ r. ClockDeed none (clockRuns.addedAs r)) (placedIn clocks.clockTable t (newClock v) (freeOf 0 (t .keys))) (refusedAdd clocks.clockTable t n)
       (put (freeOf 0 (t .keys)) refl) (leaves none (refusal n) (unnamed-refusal ofClock n)) (eqb n 0)
     where
-      put : (w : Room) → freeOf 0 (t .keys) ≡ w → ClockDeed none (clockRuns.addedAs (addedIn clocks.clockTable t (newClock v) w))
-      put room.Nothing e = leaves none (refusal 8) (unnamed-refusal ofClock 8)
-      put (room.At i g) e = adds i g (newClock v) e
+      put : (w : Answer Place) → freeOf 0 (t .keys) ≡ w → ClockDeed none (clockRuns.addedAs (placedIn clocks.clockTable t (newClock v) w))
+      put (refused m) e = leaves none (refusal m) (unnamed-refusal ofClock m)
+      put (accepted (place i g)) e = adds i g (newClock v) e
 
   clock-deed : (c : ClockCommand) → ClockDeed (clockTarget c) (runClockOf t c)
   unfolding runClockOf clocks.removeOf clocks.tickOnOf clocks.resetClockOf clocks.setSpeedOf
@@ -174,19 +190,19 @@ module _ (t : Clocks) where
   clock-deed (clockCommand.SetSpeed id v w) = on-clock id (λ i c. clocks.bySet t i c (speeds.trySetOf (c .speed) v w)) (λ c l.
       let s = speeds.trySetOf (c .speed) v w in
       clock-changed id (s .refused) (spedOf (s .parameter) c) l)
-  clock-deed (clockCommand.Time id) = leaves none _ (unnamed-read ofClock (λ a. clockTold (clockRuns.timeAs a)) (λ x. refl) (λ n. refl) (clocks.clockTimeOf t id))
-  clock-deed (clockCommand.Ticking id) = leaves none _ (unnamed-read ofClock (λ a. clockTold (clockRuns.flagAs a)) (λ x. refl) (λ n. refl) (clocks.clockTickingOf t id))
-  clock-deed (clockCommand.Speed id) = leaves none _ (unnamed-read ofClock (λ a. clockTold (clockRuns.speedAs a)) (λ x. refl) (λ n. refl) (clocks.clockSpeedOf t id))
+  clock-deed (clockCommand.Time id) = leaves none _ (unnamed-read ofClock answers.time (unnamed-time ofClock) (clocks.clockTimeOf t id))
+  clock-deed (clockCommand.Ticking id) = leaves none _ (unnamed-read ofClock answers.flag (unnamed-flag ofClock) (clocks.clockTickingOf t id))
+  clock-deed (clockCommand.Speed id) = leaves none _ (unnamed-read ofClock answers.speed (unnamed-speed ofClock) (clocks.clockSpeedOf t id))
 
 -- ---- calls on modulators
 
 module _ (t : Modulators) where
-  abbrev ModulatorDeed : Target → ModulatorRan → Type 0
-  ModulatorDeed a r = Deed ofModulator (t .keys) (t .slots) a (modulatorTold (r .answer)) (r .table .keys) (r .table .slots)
+  abbrev ModulatorDeed : Target → Left Modulators → Type 0
+  ModulatorDeed a r = Deed ofModulator (t .keys) (t .slots) a (r .answer) (r .table .keys) (r .table .slots)
 
   modulator-refused : (a : Target) (n : ℕ) → ModulatorDeed a (modulatorRuns.doneAs (refusedCall modulators.modulatorTable t n))
   modulator-refused a n =
-      cond-case (λ (r : ModulatorAnswer). ModulatorDeed a (record { answer = r; table = t })) modulatorAnswer.Done (modulatorAnswer.Refused n)
+      cond-case (λ (r : Told). ModulatorDeed a (record { answer = r; table = t })) done (refusal n)
       (leaves a done (unnamed-done ofModulator)) (leaves a (refusal n) (unnamed-refusal ofModulator n)) (eqb n 0)
 
   -- the modulator changed where a number is 0, and refused by it elsewhere
@@ -208,8 +224,8 @@ module _ (t : Modulators) where
 
     on-modulator : (f : ℕ → Modulator → ModulatorDone) → ((m : Modulator) → ModulatorAlive → OnModulator (f (id .slot) m)) → OnModulator (modulators.onModulator t (whereIs modulators.modulatorTable t id) f)
     on-modulator f h =
-        found-case (λ w. OnModulator (modulators.onModulator t w f)) (t .keys) (id .slot) (id .generation) (modulator-refused _ 7) (λ l.
-        read-case OnModulator (refusedCall modulators.modulatorTable t 7) (λ s. f (id .slot) (s .modulator)) (modulator-refused _ 7) (λ s. h (s .modulator) l) (t .slots) (id .slot))
+        found-case (λ w. OnModulator (modulators.onModulator t w f)) (t .keys) (id .slot) (id .generation) (modulator-refused _ «NO_SUCH») (λ l.
+        read-case OnModulator (refusedCall modulators.modulatorTable t «NO_SUCH») (λ s. f (id .slot) (s .modulator)) (modulator-refused _ «NO_SUCH») (λ s. h (s .modulator) l) (t .slots) (id .slot))
 
     modulator-changed : (n : ℕ) (m : Modulator) → ModulatorAlive → OnModulator (setOr n m (id .slot))
     modulator-changed n m l =
@@ -221,25 +237,24 @@ module _ (t : Modulators) where
       where
         go : (m : Modulator) → ModulatorAlive → OnModulator (setTweener n to (id .slot) m)
         go (OfTweener old) l = modulator-changed n (to old) l
-        go (OfLfo old) l = modulator-refused _ 7
+        go (OfLfo old) l = modulator-refused _ «NO_SUCH»
 
     lfo-changed : (n : Lfo → ℕ) (to : Lfo → Modulator) → OnModulator (modulators.onModulator t (whereIs modulators.modulatorTable t id) (setLfo n to))
     lfo-changed n to = on-modulator (setLfo n to) go
       where
         go : (m : Modulator) → ModulatorAlive → OnModulator (setLfo n to (id .slot) m)
-        go (OfTweener old) l = modulator-refused _ 7
+        go (OfTweener old) l = modulator-refused _ «NO_SUCH»
         go (OfLfo old) l = modulator-changed (n old) (to old) l
 
-  modulator-added : (f : Faults) (m : Modulator) → ModulatorDeed none (modulatorRuns.addedAs (modulators.addJudged t f m))
-  unfolding modulators.putOf
+  modulator-added : (f : Faults) (m : Modulator) → ModulatorDeed none (modulatorRuns.addedAs (modulators.putOf t f m))
   modulator-added f m =
-      let n : ℕ = firstFault f in
-      cond-case (λ r. ModulatorDeed none (modulatorRuns.addedAs r)) (modulators.putOf t m) (refusedAdd modulators.modulatorTable t n)
+      let n : ℕ = numberOf (ofAdd f (isRefused (freeOf 0 (t .keys)))) in
+      cond-case (λ r. ModulatorDeed none (modulatorRuns.addedAs r)) (placedIn modulators.modulatorTable t (modulators.slotOf m) (freeOf 0 (t .keys))) (refusedAdd modulators.modulatorTable t n)
       (put (freeOf 0 (t .keys)) refl) (leaves none (refusal n) (unnamed-refusal ofModulator n)) (eqb n 0)
     where
-      put : (w : Room) → freeOf 0 (t .keys) ≡ w → ModulatorDeed none (modulatorRuns.addedAs (addedIn modulators.modulatorTable t (modulators.slotOf m) w))
-      put room.Nothing e = leaves none (refusal 8) (unnamed-refusal ofModulator 8)
-      put (room.At i g) e = adds i g (modulators.slotOf m) e
+      put : (w : Answer Place) → freeOf 0 (t .keys) ≡ w → ModulatorDeed none (modulatorRuns.addedAs (placedIn modulators.modulatorTable t (modulators.slotOf m) w))
+      put (refused k) e = leaves none (refusal k) (unnamed-refusal ofModulator k)
+      put (accepted (place i g)) e = adds i g (modulators.slotOf m) e
 
   modulator-deed : (c : ModulatorCommand) → ModulatorDeed (modulatorTarget c) (runModulatorOf t c)
   unfolding runModulatorOf modulators.addTweenerOf modulators.addLfoOf modulators.removeOf modulators.setTweenerOf modulators.setParameterOf modulators.setWaveformOf modulators.setPhaseOf
@@ -250,13 +265,13 @@ module _ (t : Modulators) where
   modulator-deed (modulatorCommand.SetParameter id k v w) = lfo-changed id (λ old. firstFault (floats.targetFaults v w)) (λ old. OfLfo (modulators.parameterBy old k v w))
   modulator-deed (modulatorCommand.SetWaveform id w) = lfo-changed id (λ old. firstFault (waveFaults w)) (λ old. OfLfo (withWaveOf w old))
   modulator-deed (modulatorCommand.SetPhase id x) = lfo-changed id (λ old. firstFault (floatFaults x)) (λ old. OfLfo (withPhaseOf x old))
-  modulator-deed (modulatorCommand.Value id) = leaves none _ (unnamed-read ofModulator (λ a. modulatorTold (modulatorRuns.valueAs a)) (λ x. refl) (λ n. refl) (modulators.modulatorValueOf t id))
+  modulator-deed (modulatorCommand.Value id) = leaves none _ (unnamed-read ofModulator answers.value (unnamed-value ofModulator) (modulators.modulatorValueOf t id))
 
 -- ---- frames
 
 module _ (k : Kind) (st : Station) where
   abbrev FrameDeed : Framed → Type 0
-  FrameDeed r = Deed k (keysOf k st) (entriesOf k st) all (frameTold (r .refused)) (keysOf k (r .station)) (entriesOf k (r .station))
+  FrameDeed r = Deed k (keysOf k st) (entriesOf k st) all (byNumber (r .refused)) (keysOf k (r .station)) (entriesOf k (r .station))
 
   frame-undone : (n : ℕ) → FrameDeed (undoneOf st n)
   frame-undone n = leaves all _ (unnamed-number k n)
@@ -293,8 +308,8 @@ frame-deed k st dt =
 
 pub deed : (k : Kind) (st : Station) (c : Call) → Deed k (keysOf k st) (entriesOf k st) (targetOf c) (told st c) (keysOf k (after st c)) (entriesOf k (after st c))
 deed ofClock st (clock c) = clock-deed (st .clocks) c
-deed ofClock st (modulator c) = leaves _ _ (unnamed-clock (runModulatorOf (st .modulators) c .answer))
+deed ofClock st (modulator c) = leaves _ _ (unnamed-clock (st .modulators) c)
 deed ofClock st (frame dt) = frame-deed ofClock st dt
-deed ofModulator st (clock c) = leaves _ _ (unnamed-modulator (runClockOf (st .clocks) c .answer))
+deed ofModulator st (clock c) = leaves _ _ (unnamed-modulator (st .clocks) c)
 deed ofModulator st (modulator c) = modulator-deed (st .modulators) c
 deed ofModulator st (frame dt) = frame-deed ofModulator st dt

@@ -7,14 +7,12 @@ use mathlib.Core.Bool.{Bool, true, false, _&&_, cond, false≢true}
 use mathlib.Core.List.{List, [], _∷_}
 use lib.ListN.{length, set}
 use lib.Dec.{eqb}
-use Rattle.ids.specs.Keys.{freeOf, livesIn, findOf, usedAt}
+use Rattle.ids.specs.Keys.{roomAt, freeOf, livesIn, noSuch, findOf, usedAt}
 use Rattle.ids.specs.Lists.{readAt}
 use Rattle.ids.specs.declared.Key.{Key}
-use Rattle.ids.specs.declared.Room.the-variants as room
-use Rattle.ids.specs.declared.Found.{Found}
-use Rattle.ids.specs.declared.Found.the-variants as found
 use Rattle.ids.proofs.Places.{read-set-same, read-set-other, lives-parts, gives}
-use Rattle.judge.specs.Answer.{accepted, refused}
+use Rattle.judge.specs.Answer.{Answer, accepted, refused}
+use Rattle.judge.specs.Numbers.{«NO_SUCH»}
 use Rattle.times.specs.declared.time.ClockId.{ClockId}
 use Rattle.ids.specs.Tables.{onFound, readFound, whereIs}
 use Rattle.clock_table.specs.ClockTables.{clockTable}
@@ -28,9 +26,9 @@ use Rattle.laws.proofs.lemmas.Deeds.{Deed, leaves, changes, removes, ad
 
 -- ---- a slot of a list
 
--- x stands in slot i; 7 is what a lookup past the end is refused by
+-- x stands in slot i; NO_SUCH is what a lookup past the end is refused by
 abbrev pub Holds : {A : Type 0} → List A → ℕ → A → Type 0
-Holds l i x = readAt (refused 7) (λ y. accepted y) l i ≡ accepted x
+Holds l i x = readAt (refused «NO_SUCH») (λ y. accepted y) l i ≡ accepted x
 
 module _ {A : Type 0} where
   pub holds-read : {B : Type 0} (n : B) (f : A → B) (l : List A) (i : ℕ) (x : A) → Holds l i x → readAt n f l i ≡ f x
@@ -46,10 +44,10 @@ module _ {A : Type 0} where
   holds-inside (y ∷ l) (suc i) x h = suc-le-suc (holds-inside l i x h)
 
   pub holds-same : (l : List A) (i : ℕ) (x y : A) → Holds l i x → Holds (set l i y) i y
-  holds-same l i x y h = read-set-same (refused 7) (λ z. accepted z) l i y (holds-inside l i x h)
+  holds-same l i x y h = read-set-same (refused «NO_SUCH») (λ z. accepted z) l i y (holds-inside l i x h)
 
   pub holds-other : (l : List A) (i j : ℕ) (x y : A) → (j ≡ i → ⊥) → Holds l j x → Holds (set l i y) j x
-  holds-other l i j x y n h = read-set-other (refused 7) (λ z. accepted z) l i j y n ∙ h
+  holds-other l i j x y n h = read-set-other (refused «NO_SUCH») (λ z. accepted z) l i j y n ∙ h
 
 -- ---- a call that acts elsewhere
 
@@ -61,7 +59,7 @@ lives-used ks i g l = go (usedAt ks i) (eqb _ g) (rw lives-parts at l)
     go false b e = e
 
 -- an add takes no slot in which an id lives
-taken : (ks : List Key) (j h i g : ℕ) → livesIn ks j h ≡ true → freeOf 0 ks ≡ room.At i g → j ≡ i → ⊥
+taken : (ks : List Key) (j h i g : ℕ) → livesIn ks j h ≡ true → freeOf 0 ks ≡ roomAt i g → j ≡ i → ⊥
 taken ks j h i g l e p = false≢true (sym (gives ks i g e .empty) ∙ (rw p at (lives-used ks j h l)))
 
 module _ (k : Kind) (st : Station) (j h : ℕ) (l : lives k st j h ≡ true) where
@@ -85,7 +83,7 @@ pub record Names (t : Clocks) (id : ClockId) (c : Clock) : Type 0 where
   pub holds : Holds (t .clocks) (id .slot) c
 
 module _ (t : Clocks) (id : ClockId) (c : Clock) where
-  abbrev Tells : Found → Type 0
+  abbrev Tells : Answer ℕ → Type 0
   Tells w = readFound clockTable t w (λ x. x) ≡ accepted c
 
   -- as a lookup tells it
@@ -93,17 +91,17 @@ module _ (t : Clocks) (id : ClockId) (c : Clock) where
   unfolding findOf
   names-of = go (livesIn (t .keys) (id .slot) (id .generation)) refl
     where
-      go : (b : Bool) → livesIn (t .keys) (id .slot) (id .generation) ≡ b → Tells (cond b (found.At (id .slot)) found.Nothing) → Names t id c
+      go : (b : Bool) → livesIn (t .keys) (id .slot) (id .generation) ≡ b → Tells (cond b (accepted (id .slot)) noSuch) → Names t id c
       go true l e = record { lives = l; holds = e }
       go false l e = let z : _≡_ {A = ℕ} 0 1 = cc in absurd (omega arith)
 
   module _ (n : Names t id c) where
-    pub names-where : whereIs clockTable t id ≡ found.At (id .slot)
+    pub names-where : whereIs clockTable t id ≡ accepted (id .slot)
     unfolding findOf
     names-where = rw (n .lives)
 
     pub names-read : {A : Type 0} (f : Clock → A) → readFound clockTable t (whereIs clockTable t id) f ≡ accepted (f c)
-    names-read f = rw names-where (holds-read (refused 7) (λ x. accepted (f x)) (t .clocks) (id .slot) c (n .holds))
+    names-read f = rw names-where (holds-read (refused «NO_SUCH») (λ x. accepted (f x)) (t .clocks) (id .slot) c (n .holds))
 
     pub names-on : (f : ℕ → Clock → ClockDone) → onFound clockTable t (whereIs clockTable t id) f ≡ f (id .slot) c
     names-on f = rw names-where (holds-read _ (f (id .slot)) (t .clocks) (id .slot) c (n .holds))

@@ -11,9 +11,9 @@ use lib.Ieee.Fits.{add-fits, div-fits, rem-fits}
 use borrow.Author.Tests.{ne-eqb}
 use Rattle.doubles.specs.Doubles.{zeroF, oneF, twoF}
 use Rattle.doubles.proofs.Unit.{le-trans, between-wider}
-use Rattle.ids.specs.Keys.{freeOf, livesIn}
-use Rattle.ids.specs.declared.Room.{Room}
-use Rattle.ids.specs.declared.Room.the-variants as room
+use Rattle.ids.specs.Keys.{Place, place, freeOf, livesIn}
+use Rattle.judge.specs.Answer.{Answer, accepted, refused, isRefused}
+use Rattle.judge.specs.Numbers.{«NO_SUCH»}
 use Rattle.ids.proofs.Names as names
 use Rattle.times.specs.Durations.{secondsOf}
 use Rattle.judge.specs.Judge.{noFaults, bothFaults, dtFaults, floatFaults, firstFault}
@@ -44,19 +44,18 @@ use Rattle.modulator.specs.declared.tweener.TweenerMove.{TweenerMove}
 use Rattle.modulator.specs.declared.tweener.TweenerState.{TweenerState}
 use Rattle.modulator.specs.declared.tweener.TweenerState.the-variants.{Idle, Tweening}
 use Rattle.modulator_table.specs.ModulatorTables as tables
-use Rattle.ids.specs.Tables.{refusedAdd, refusedCall, whereIs, freed, addedIn}
-use Rattle.modulator_table.specs.ModulatorTables.{modulatorTable, parameterBy, slotOf, putOf, addJudged, onModulator, changedTo, changeJudged, onTweener, onLfo}
+use Rattle.ids.specs.Tables.{Added, refusedCall, whereIs, freed, placedIn}
+use Rattle.modulator_table.specs.ModulatorTables.{modulatorTable, parameterBy, slotOf, putOf, onModulator, changedTo, changeJudged, onTweener, onLfo}
 use Rattle.modulator_table.specs.declared.Modulator.{Modulator}
 use Rattle.modulator_table.specs.declared.Modulator.the-variants.{OfTweener, OfLfo}
 use Rattle.modulator_table.specs.declared.Modulators.{Modulators}
-use Rattle.modulator_table.specs.declared.ModulatorAdded.{ModulatorAdded}
 use Rattle.modulator_table.specs.declared.ModulatorDone.{ModulatorDone}
 use Rattle.commands.specs.ModulatorCommands.{runModulatorOf}
 use Rattle.commands.specs.declared.modulator_command.ModulatorCommand.{ModulatorCommand}
 use Rattle.commands.specs.declared.modulator_command.ModulatorCommand.the-variants as command
 use Rattle.laws.specs.Sound.{Double, Within, Sized, SoundInput, SoundCourse, SoundFloat}
 use Rattle.laws.specs.SoundStation.{SoundMove, SoundTweener, SoundTweenerState, SoundWave, SoundLfo, SoundModulator, SoundSlot, SoundModulators, BuilderDoubles, ModulatorDoubles}
-use Rattle.laws.proofs.lemmas.Accepted.{no-faults, judged-case}
+use Rattle.laws.proofs.lemmas.Accepted.{no-faults, judged-case, add-case}
 use Rattle.laws.proofs.lemmas.Deeds.{found-case}
 use Rattle.laws.proofs.lemmas.Every.{all-set, all-read}
 use Rattle.laws.proofs.lemmas.Floats.{float-sized, new-sound, set-sound, update-sound}
@@ -186,13 +185,12 @@ module _ (t : Modulators) (s : SoundModulators t) where
   put-sound : (i : ℕ) (m : Modulator) → SoundModulator m → SoundModulators (changedTo t i m .table)
   put-sound i m k = record { keys = s .keys; entries = all-set SoundSlot (t .slots) i (slotOf m) k (s .entries) }
 
-  added-sound : (f : Faults) (m : Modulator) → (f ≡ noFaults → SoundModulator m) → SoundModulators (addJudged t f m .table)
-  unfolding putOf
-  added-sound f m h = judged-case (λ (r : ModulatorAdded). SoundModulators (r .table)) f (putOf t m) (refusedAdd modulatorTable t (firstFault f)) (λ e. put (h e) (freeOf 0 (t .keys)) refl) s
+  added-sound : (f : Faults) (m : Modulator) → (f ≡ noFaults → SoundModulator m) → SoundModulators (putOf t f m .table)
+  added-sound f m h = add-case (λ (r : Added Modulators ModulatorId). SoundModulators (r .table)) f (isRefused (freeOf 0 (t .keys))) (placedIn modulatorTable t (slotOf m) (freeOf 0 (t .keys))) _ (λ e. put (h e) (freeOf 0 (t .keys)) refl) s
     where
-      put : SoundModulator m → (w : Room) → freeOf 0 (t .keys) ≡ w → SoundModulators (addedIn modulatorTable t (slotOf m) w .table)
-      put k room.Nothing e = s
-      put k (room.At i g) e = record { keys = names.add-numbered (t .keys) i g e (s .keys); entries = all-set SoundSlot (t .slots) i (slotOf m) k (s .entries) }
+      put : SoundModulator m → (w : Answer Place) → freeOf 0 (t .keys) ≡ w → SoundModulators (placedIn modulatorTable t (slotOf m) w .table)
+      put k (refused n) e = s
+      put k (accepted (place i g)) e = record { keys = names.add-numbered (t .keys) i g e (s .keys); entries = all-set SoundSlot (t .slots) i (slotOf m) k (s .entries) }
 
   changed-sound : (i : ℕ) (f : Faults) (m : Modulator) → (f ≡ noFaults → SoundModulator m) → SoundModulators (changeJudged t i f m .table)
   changed-sound i f m h = judged-case (λ (r : ModulatorDone). SoundModulators (r .table)) f (changedTo t i m) (refusedCall modulatorTable t (firstFault f)) (λ e. put-sound i m (h e)) s
@@ -204,7 +202,7 @@ module _ (t : Modulators) (s : SoundModulators t) where
         → SoundModulators (onModulator t (whereIs modulatorTable t id) f .table)
     on-found f h =
         found-case (λ w. SoundModulators (onModulator t w f .table)) (t .keys) (id .slot) (id .generation) s (λ l.
-        all-read SoundSlot (λ (r : ModulatorDone). SoundModulators (r .table)) (refusedCall modulatorTable t 7) (λ v. f (id .slot) (v .modulator)) s (λ v k. h (v .modulator) l k) (t .slots) (id .slot) (s .entries))
+        all-read SoundSlot (λ (r : ModulatorDone). SoundModulators (r .table)) (refusedCall modulatorTable t «NO_SUCH») (λ v. f (id .slot) (v .modulator)) s (λ v k. h (v .modulator) l k) (t .slots) (id .slot) (s .entries))
 
     tweener-sound : (f : ℕ → Tweener → ModulatorDone) → ((w : Tweener) → SoundTweener w → SoundModulators (f (id .slot) w .table)) → SoundModulators (onModulator t (whereIs modulatorTable t id) (λ i m. onTweener t m (f i)) .table)
     tweener-sound f h = on-found (λ i m. onTweener t m (f i)) (λ m l. go m)

@@ -14,16 +14,16 @@ use Rattle.ids.specs.Keys.{usedAt}
 use Rattle.ids.specs.Lists.{readAt}
 use Rattle.ids.specs.declared.Key.{Key}
 use Rattle.ticks.specs.WholeTicks.{takenOf}
-use Rattle.ticks.specs.declared.Taken.{Taken}
-use Rattle.ticks.specs.declared.Taken.the-variants as taken
+use Rattle.ticks.specs.declared.Position.{Position}
+use Rattle.judge.specs.Answer.{Answer, accepted, refused}
+use Rattle.judge.specs.Judge.{numberOf}
 use Rattle.judge.specs.Judge.{dtFaults, firstFault}
 use Rattle.times.specs.declared.time.ClockId.{ClockId}
 use Rattle.info.specs.declared.info.Info.{Info}
 use Rattle.parameter.specs.declared.speed.SpeedParameter.{SpeedParameter}
-use Rattle.clock.specs.OneClock.{byTaken, tickOf, updateClockOf}
+use Rattle.clock.specs.OneClock.{byTurn, tickOf, updateClockOf}
 use Rattle.clock.specs.declared.Clock.{Clock}
-use Rattle.clock.specs.declared.Moved.{Moved}
-use Rattle.clock.specs.declared.Moved.the-variants.{Is, Refused}
+use Rattle.clock.specs.declared.Ticked.{Ticked}
 use Rattle.clock.specs.declared.Reported.{Reported}
 use Rattle.clock_table.specs.declared.Clocks.{Clocks}
 use Rattle.modulator_table.specs.declared.Slot.{Slot}
@@ -42,7 +42,7 @@ use Rattle.laws.proofs.lemmas.Entries.{Holds, holds-read, holds-same, h
 pub record Turned (dt : Float) (c d : Clock) : Type 0 where
   pub seen : Info
   pub report : Reported
-  pub is : turnClock seen c dt ≡ Is (record { clock = d; report = report })
+  pub is : turnClock seen c dt ≡ accepted (record { clock = d; report = report })
 
 -- the clock of the id behind it
 pub record Goes (t : Clocks) (id : ClockId) (c : Clock) (dt : Float) : Type 0 where
@@ -50,21 +50,19 @@ pub record Goes (t : Clocks) (id : ClockId) (c : Clock) (dt : Float) : Type 0 wh
   pub names : Names t id now
   pub turned : Turned dt c now
 
--- a turn is refused by 9 or 10, and never by 0: RULES, frame-refused
-abbrev Numbered : Moved → Type 0
-Numbered (Is t) = Unit {0}
-Numbered (Refused n) = n ≡ 0 → ⊥
-
-nine : Numbered (Refused 9)
-nine e = omega arith
+-- a turn is refused by TOO_FAR or TICKS_FULL, and never by 0: RULES, frame-refused
+abbrev Numbered : Answer Ticked → Type 0
+Numbered (accepted t) = Unit {0}
+Numbered (refused n) = n ≡ 0 → ⊥
 
 turn-numbered : (info : Info) (c : Clock) (dt : Float) → Numbered (turnClock info c dt)
-unfolding turnClock updateClockOf tickOf
-turn-numbered info c dt = cond-case Numbered _ _ (cond-case Numbered (Refused 9) _ nine (by-taken _ _ (takenOf _ _)) (lt _ _)) tt (c .ticking)
+unfolding turnClock updateClockOf tickOf numberOf
+turn-numbered info c dt = cond-case Numbered _ _ (by-turn _ _ (lt _ _) (takenOf _ _)) tt (c .ticking)
   where
-    by-taken : (p : SpeedParameter) (b : Bool) (t : Taken) → Numbered (byTaken p b t)
-    by-taken p b taken.Full = λ e. omega arith
-    by-taken p b (taken.At to) = tt
+    by-turn : (p : SpeedParameter) (told far : Bool) (t : Answer Position) → Numbered (byTurn p told far t)
+    by-turn p told true t = λ e. omega arith
+    by-turn p told false (refused n) = λ e. omega arith
+    by-turn p told false (accepted to) = tt
 
 -- ---- the turns so far
 
@@ -95,9 +93,9 @@ used-read n x (k ∷ ks) (suc i) u = used-read n x ks i u
 
 module _ (info : Info) (dt : Float) (keys : List Key) where
   module _ (i : ℕ) (cs : List Clock) (rs : List Reported) where
-    put : (Q : List Clock → Type 0) → ((d : Clock) → Q (set cs i d)) → (m : Moved) → Numbered m → Ends Q (placed i cs rs m)
-    put Q h (Is t) k = h (t .clock)
-    put Q h (Refused n) k = k
+    put : (Q : List Clock → Type 0) → ((d : Clock) → Q (set cs i d)) → (m : Answer Ticked) → Numbered m → Ends Q (placed i cs rs m)
+    put Q h (accepted t) k = h (t .clock)
+    put Q h (refused n) k = k
 
     -- whatever the slot's clock becomes
     turn-any : (Q : List Clock → Type 0) → Q cs → ((d : Clock) → Q (set cs i d)) → Ends Q (clockTurn info dt keys i cs rs)
@@ -111,9 +109,9 @@ module _ (info : Info) (dt : Float) (keys : List Key) where
         rw (used-read (went cs rs) (readAt (went cs rs) (λ c. placed i cs rs (turnClock (watching info cs) c dt)) cs i) keys i u, holds-read (went cs rs) (λ c. placed i cs rs (turnClock (watching info cs) c dt)) cs i c h)
         (go (turnClock (watching info cs) c dt) refl (turn-numbered (watching info cs) c dt))
       where
-        go : (m : Moved) → turnClock (watching info cs) c dt ≡ m → Numbered m → Ends (Gets dt c i) (placed i cs rs m)
-        go (Is t) e k = record { now = t .clock; holds = holds-same cs i c (t .clock) h; turned = record { seen = watching info cs; report = t .report; is = e } }
-        go (Refused n) e k = k
+        go : (m : Answer Ticked) → turnClock (watching info cs) c dt ≡ m → Numbered m → Ends (Gets dt c i) (placed i cs rs m)
+        go (accepted t) e k = record { now = t .clock; holds = holds-same cs i c (t .clock) h; turned = record { seen = watching info cs; report = t .report; is = e } }
+        go (refused n) e k = k
 
   turns-before : (n i : ℕ) (cs : List Clock) (rs : List Reported) (j : ℕ) (x : Clock) → j < i → Holds cs j x → Ends (λ ds. Holds ds j x) (clockTurns info dt keys n i cs rs)
   unfolding clockTurns

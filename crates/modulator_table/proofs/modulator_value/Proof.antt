@@ -1,34 +1,43 @@
--- `modulator_value` meets its contract: `value` is asked of the entry in the slot that `place` gives. Assumes nothing.
-use borrow.Author.Needs.{needs}
-use mathlib.Core.Path.{sym, ap, _∙_}
-use Rattle.judge.specs.Answer.{accepted}
-use Rattle.modulator_table.specs.ModulatorTables.{valueOf, modulatorValueOf}
-use Rattle.modulator_table.specs.declared.Modulator.{Modulator}
-use Rattle.modulator_table.proofs.Lookups.{Lookup, looked, read-modulator}
+-- `modulator_value` meets its contract: the value shown is that of the slot found. Assumes nothing.
+use Prim.Native.Nat.{_<_}
+use native.Mathlib.Omega.{arith}
+use Rattle.judge.specs.Answer.{accepted, refused}
+use Rattle.judge.specs.Numbers.{«NO_SUCH»}
+use Rattle.ids.proofs.Places.{Living, some-slot, living, missing, living-read}
+use Rattle.modulator_table.specs.ModulatorTables.{slotValue, modulatorValueOf}
+use Rattle.modulator_table.specs.declared.Slot.{Slot}
+use Rattle.modulator_table.proofs.Lookups.{Sixteen, sixteen}
 use Rattle.modulator_table.proofs.modulator_value.Statement.{statement}
 use Rattle.modulator_table.proofs.modulator_value.Tie as tie
 
-abbrev start : tie.After-i → tie.Start
-start c = c .before .before .before
+sizes : (s : tie.Start) → Sixteen (s .args .t1)
+sizes s = sixteen (s .args .t1) _ (s .good .0)
 
-lookup : (c : tie.After-i) → Lookup (start c .args .t) (start c .args .id) (c .i .given .0 .0)
-lookup c = looked (start c .args .t) (start c .good .0) _ _ (c .before .before .place .ensures) (c .i .given .1)
+below : (c : tie.After-find) → c .find .result .slot < 16
+below c = some-slot _ _ _ (sizes (c .before .before) .keys) (c .find .ensures)
 
 returns : tie.Need-returns
 unfolding modulatorValueOf
-returns c = rw (sym (c .before .before .place .ensures) ∙ c .enum-told .given .1)
-
-read-requires : tie.Need-read-requires
-read-requires c κs = lookup (c .before) .below
+returns c =
+    let f = c .before .before in
+    rw (missing _ _ _ (sizes (f .before .before) .keys) (f .find .ensures) (c .if1 .taken))
 
 returns-2 : tie.Need-returns-2
 unfolding modulatorValueOf
 returns-2 c =
-    let found = c .before .before .before in
-    let l = lookup found in
-    rw (l .is, c .value .ensures)
-    (ap (λ (m : Modulator). accepted (valueOf m)) (c .before .read .ensures)
-    ∙ sym (read-modulator _ (λ (m : Modulator). accepted (valueOf m)) (start found .args .t) _ (l .inside)))
+    let test = c .before .before in
+    let f = test .before .before in
+    let n = sizes (f .before .before) in
+    rw (living _ _ _ (n .keys) (f .find .ensures) (test .if1 .left) .is, c .slot-value .ensures)
+    (living-read _ _ _ (n .keys) (f .find .ensures) (test .if1 .left) (refused «NO_SUCH») (λ (x : Slot). accepted (slotValue x)) _ _ (n .slots))
 
 pub modulator-value-spec : {M : Type 1} → statement M
-modulator-value-spec = tie.close (tie.spec (λ _ _. tt) (λ c. search needs) (λ c. search needs) returns read-requires (λ _ _. tt) returns-2)
+modulator-value-spec =
+    tie.close
+    (tie.spec
+    (λ _ _. tt)
+    returns
+    (λ c. omega (arith, below (c .before .before)))
+    (λ c. below (c .before .before))
+    (λ _ _. tt)
+    returns-2)

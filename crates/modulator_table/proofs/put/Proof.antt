@@ -1,40 +1,43 @@
--- `put` meets its contract: it answers the number, or takes the slot that `free` gives. Assumes nothing.
-use borrow.Author.Needs.{needs}
-use borrow.Author.Tests.{eq-eqb, ne-eqb}
+-- `put` meets its contract: it stores a key and a slot once, new or as they were. Assumes nothing.
+use Prim.Native.Nat.{_<_}
 use native.Mathlib.Omega.{arith}
-use mathlib.Core.Path.{sym, _∙_}
-use Rattle.modulator_table.specs.ModulatorTables.{putOf}
-use Rattle.modulator_table.proofs.Lookups.{Place, placed}
+use mathlib.Core.Path.{_≡_, refl}
+use Rattle.ids.proofs.Entries.{adds}
+use Rattle.ids.proofs.Places.{placed-below}
+use Rattle.modulator_table.specs.ModulatorTables.{slotOf, modulatorTable}
+use Rattle.modulator_table.proofs.Lookups.{Sixteen, sixteen}
 use Rattle.modulator_table.proofs.put.Statement.{statement}
 use Rattle.modulator_table.proofs.put.Tie as tie
 
-abbrev start : tie.After-i → tie.Start
-start c = c .before .before .before .before .before
+sizes : (s : tie.Start) → Sixteen (s .args .t)
+sizes s = sixteen (s .args .t) _ (s .good .0)
 
-place : (c : tie.After-i) → Place (start c .args .t) (c .i .given .0 .0) (c .i .given .0 .1 .0)
-place c = placed (start c .args .t) (start c .good .0) _ _ (c .before .before .free .ensures) (c .i .given .1)
+below : (c : tie.After-place) → c .place .result .slot < 16
+below c =
+    let s = c .before .before .before in
+    placed-below (s .args .t .keys) (c .before .first-fault .result) (sizes s .keys) (c .place .ensures)
 
 returns : tie.Need-returns
-returns c = rw (ne-eqb _ 0 (c .if1 .taken))
-
-returns-2 : tie.Need-returns-2
-unfolding putOf
-returns-2 c = rw (eq-eqb _ 0 (c .before .before .before .before .if1 .left), sym (c .before .before .free .ensures) ∙ c .enum-told .given .1)
-
-cast-t13 : tie.Need-cast-t13
-cast-t13 c = omega (arith, place (c .before) .below)
-
-keyed-requires : tie.Need-keyed-requires
-keyed-requires c κs = place (c .before) .below
-
-stored-requires : tie.Need-stored-requires
-stored-requires c κs = place (c .before .before) .below
-
-returns-3 : tie.Need-returns-3
-unfolding putOf
-returns-3 c =
-    let room = c .before .before .before in
-    rw (eq-eqb _ 0 (room .before .before .before .before .if1 .left), place room .is, c .stored .ensures, c .before .keyed .ensures)
+returns c =
+    let k = c .before in
+    let p = k .before .before .before in
+    let n = p .before in
+    let s = n .before .before in
+    rw (c .named .ensures)
+    (adds modulatorTable (s .args .t) refl (s .args .f) (slotOf (s .args .m)) _ (n .first-fault .ensures) refl (p .place .ensures) (k .slot-by .ensures))
 
 pub put-spec : {M : Type 1} → statement M
-put-spec = tie.close (tie.spec returns (λ _ _. tt) (λ c. search needs) (λ c. search needs) returns-2 cast-t13 keyed-requires stored-requires returns-3)
+put-spec =
+    tie.close
+    (tie.spec
+    (λ _ _. tt)
+    (λ _ _. tt)
+    (λ c. omega (arith, below (c .before)))
+    (λ c. below (c .before))
+    (λ c. omega (arith, below (c .before .before)))
+    (λ c. below (c .before .before))
+    (λ _ _. tt)
+    (λ c. omega (arith, below (c .before .before .before)))
+    (λ c. below (c .before .before .before))
+    (λ c κs. below (c .before .before .before))
+    returns)

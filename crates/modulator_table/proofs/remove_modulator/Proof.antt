@@ -1,34 +1,39 @@
--- `remove_modulator` meets its contract: it leaves the slot that `place` gives. Assumes nothing.
-use borrow.Author.Needs.{needs}
-use mathlib.Core.Path.{sym, _∙_}
-use Rattle.ids.proofs.Places.{read-at}
+-- `remove_modulator` meets its contract: it stores one key, that of the slot found, freed or as it was. Assumes
+-- nothing.
+use Prim.Native.Nat.{_<_}
+use native.Mathlib.Omega.{arith}
+use mathlib.Core.Path.{refl}
 use Rattle.doubles.specs.Doubles.{zeroF}
+use Rattle.ids.proofs.Entries.{frees}
+use Rattle.ids.proofs.Places.{some-slot}
 use Rattle.modulator.specs.Tweeners.{newTweener}
-use Rattle.modulator_table.specs.ModulatorTables.{slotOf, removeOf}
 use Rattle.modulator_table.specs.declared.Modulator.the-variants.{OfTweener}
-use Rattle.modulator_table.proofs.Lookups.{Lookup, looked}
+use Rattle.modulator_table.specs.ModulatorTables.{slotOf, modulatorTable, removeOf}
+use Rattle.modulator_table.proofs.Lookups.{Sixteen, sixteen}
 use Rattle.modulator_table.proofs.remove_modulator.Statement.{statement}
 use Rattle.modulator_table.proofs.remove_modulator.Tie as tie
 
-abbrev start : tie.After-i → tie.Start
-start c = c .before .before .before
+sizes : (s : tie.Start) → Sixteen (s .args .t)
+sizes s = sixteen (s .args .t) _ (s .good .0)
 
-lookup : (c : tie.After-i) → Lookup (start c .args .t) (start c .args .id) (c .i .given .0 .0)
-lookup c = looked (start c .args .t) (start c .good .0) _ _ (c .before .before .place .ensures) (c .i .given .1)
+below : (c : tie.After-find) → c .find .result .slot < 16
+below c = some-slot _ _ _ (sizes (c .before .before) .keys) (c .find .ensures)
 
 returns : tie.Need-returns
 unfolding removeOf
-returns c = rw (sym (c .before .before .place .ensures) ∙ c .enum-told .given .1)
-
-keyed-requires : tie.Need-keyed-requires
-keyed-requires c κs = lookup (c .before) .below
-
--- the code does not read the entry, so that any default serves
-returns-2 : tie.Need-returns-2
-unfolding removeOf
-returns-2 c =
-    let l = lookup (c .before .before) in
-    rw (l .is, read-at _ _ _ _ (slotOf (OfTweener (newTweener zeroF))) (l .inside), c .keyed .ensures)
+returns c =
+    let f = c .before .before in
+    let s = f .before .before in
+    frees modulatorTable (s .args .t) (s .args .id) refl (sizes s .keys) (sizes s .slots) _ (slotOf (OfTweener (newTweener zeroF))) _ (f .find .ensures) (c .left .ensures)
 
 pub remove-modulator-spec : {M : Type 1} → statement M
-remove-modulator-spec = tie.close (tie.spec (λ _ _. tt) (λ c. search needs) (λ c. search needs) returns keyed-requires returns-2)
+remove-modulator-spec =
+    tie.close
+    (tie.spec
+    (λ _ _. tt)
+    (λ c. omega (arith, below c))
+    below
+    (λ _ _. tt)
+    (λ c. omega (arith, below (c .before .before)))
+    (λ c. below (c .before .before))
+    returns)

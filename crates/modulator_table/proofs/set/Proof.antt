@@ -1,39 +1,45 @@
--- `set` meets its contract: `settled` stores what `modulator_by` gives of the entry in the slot that `place` gives, by
--- the number that `refusal` gives. Assumes nothing.
-use borrow.Author.Needs.{needs}
-use mathlib.Core.Path.{sym, _∙_}
-use Rattle.modulator_table.specs.Sets.{setBy}
-use Rattle.modulator_table.proofs.Lookups.{Lookup, looked}
-use Rattle.modulator_table.proofs.Sets.{set-at}
+-- `set` meets its contract: it stores once, the slot as `set_by` leaves it. Assumes nothing.
+use Prim.Native.Nat.{_<_}
+use native.Mathlib.Omega.{arith}
+use mathlib.Core.Path.{_∙_, ap, refl}
+use Rattle.judge.specs.Judge.{firstFault}
+use Rattle.ids.proofs.Entries.{stores}
+use Rattle.ids.proofs.Places.{some-slot}
+use Rattle.modulator_table.specs.ModulatorTables.{slotOf, modulatorTable}
+use Rattle.modulator_table.specs.Sets.{isLfo, refusalOf, modulatorBy, setBy}
+use Rattle.modulator_table.specs.declared.Slot.{Slot}
+use Rattle.modulator_table.proofs.Lookups.{Sixteen, sixteen, changed-number, changed-slot}
 use Rattle.modulator_table.proofs.set.Statement.{statement}
 use Rattle.modulator_table.proofs.set.Tie as tie
 
-abbrev start : tie.After-i → tie.Start
-start c = c .before .before .before
+sizes : (s : tie.Start) → Sixteen (s .args .t)
+sizes s = sixteen (s .args .t) _ (s .good .0)
 
-lookup : (c : tie.After-i) → Lookup (start c .args .t) (start c .args .id) (c .i .given .0 .0)
-lookup c = looked (start c .args .t) (start c .good .0) _ _ (c .before .before .place .ensures) (c .i .given .1)
+below : (c : tie.After-find) → c .find .result .slot < 16
+below c = some-slot _ _ _ (sizes (c .before .before) .keys) (c .find .ensures)
 
 returns : tie.Need-returns
 unfolding setBy
-returns c = rw (sym (c .before .before .place .ensures) ∙ c .enum-told .given .1)
-
-read-requires : tie.Need-read-requires
-read-requires c κs = lookup (c .before) .below
-
-settled-requires : tie.Need-settled-requires
-settled-requires c κs = lookup (c .before .before .before .before .before) .below
-
-returns-2 : tie.Need-returns-2
-returns-2 c =
+returns c =
     let by = c .before in
-    let number = by .before in
-    let kind = number .before in
-    let entry = kind .before in
-    let found = entry .before .before in
-    set-at _ _ _ _ (lookup found) (entry .read .ensures) (kind .is-lfo .ensures) (number .refusal .ensures) (by .modulator-by .ensures) (c .settled .ensures)
+    let n = by .before in
+    let f = n .before .before in
+    let s = f .before .before in
+    let a = s .args in
+    rw (← n .first-fault .ensures)
+    (stores modulatorTable (a .t) (a .id) refl (sizes s .keys) (sizes s .slots) _
+    (λ (x : Slot). refusalOf (isLfo (x .modulator)) (a .asked) (n .first-fault .result)) (λ (x : Slot). slotOf (modulatorBy (x .modulator) (a .asked)))
+    (f .find .ensures) (changed-number _ _ _ _ (by .set-by .ensures)) (changed-slot _ _ _ _ (by .set-by .ensures)))
 
 pub set-spec : {M : Type 1} → statement M
 set-spec =
     tie.close
-    (tie.spec (λ _ _. tt) (λ c. search needs) (λ c. search needs) returns read-requires (λ _ _. tt) (λ _ _. tt) (λ _ _. tt) settled-requires returns-2)
+    (tie.spec
+    (λ _ _. tt)
+    (λ c. omega (arith, below c))
+    below
+    (λ _ _. tt)
+    (λ _ _. tt)
+    (λ c. omega (arith, below (c .before .before .before .before)))
+    (λ c. below (c .before .before .before .before))
+    returns)

@@ -18,7 +18,7 @@ use Rattle.clock.specs.OneClock.{infoOf, noReport}
 use Rattle.clock.specs.declared.Clock.{Clock}
 use Rattle.clock.specs.declared.Reported.{Reported}
 use Rattle.clock.specs.declared.Ticked.{Ticked}
-use Rattle.clock.specs.declared.Moved.the-variants as moved
+use Rattle.judge.specs.Answer.{accepted, refused}
 use Rattle.clock_table.specs.declared.Clocks.{Clocks}
 use Rattle.clock_table.proofs.Slots.{Sixteen, sixteen}
 use Rattle.clock_table.proofs.Clocks.{the-type}
@@ -92,7 +92,7 @@ module _ (info : Info) (dt : Float) (t new : Clocks) (seen : Info) (rs : List Re
 
     -- a clock that refuses
     pub left-stopped :
-        (d : Clock) (r : Reported) (n : ℕ) → getD (new .keys) i k .used ≡ true → turnClock seen (getD (new .clocks) i d) dt ≡ moved.Refused n → r ≡ noReport
+        (d : Clock) (r : Reported) (n : ℕ) → getD (new .keys) i k .used ≡ true → turnClock seen (getD (new .clocks) i d) dt ≡ refused n → r ≡ noReport
         → _≡_ {A = ClocksTurned} (record { refused = n; table = t; reports = replicate 16 r }) (clocksTurned info dt t)
     unfolding clocksTurned
     left-stopped d r n u e none =
@@ -114,7 +114,7 @@ module _ (info : Info) (dt : Float) (t new : Clocks) (seen : Info) (rs : List Re
 
       -- a clock after its turn, what it reported, and what is seen of it
       pub left-made :
-          (d : Clock) (c : Ticked) (x : ClockInfo) → getD (new .keys) i k .used ≡ true → turnClock seen (getD (new .clocks) i d) dt ≡ moved.Is c → x ≡ infoOf (c .clock)
+          (d : Clock) (c : Ticked) (x : ClockInfo) → getD (new .keys) i k .used ≡ true → turnClock seen (getD (new .clocks) i d) dt ≡ accepted c → x ≡ infoOf (c .clock)
           → next ≡ record { keys = new .keys; clocks = set (new .clocks) i (c .clock) }
           → after ≡ record { «clock_keys» = seen .«clock_keys»; clocks = set (seen .clocks) i x; «modulator_keys» = seen .«modulator_keys»; values = seen .values }
           → told ≡ set rs i (c .report) → Left info dt t next after told (i + 1)

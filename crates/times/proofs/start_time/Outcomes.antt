@@ -8,6 +8,8 @@ use Rattle.times.specs.declared.start_time.StartUp.{StartUp}
 use Rattle.times.specs.declared.start_time.StartUp.the-variants as started
 use Rattle.times.proofs.start_time.start_faults.Reads as start-faults
 use Rattle.times.proofs.start_time.start_faults.Kinds as start-faults-kinds
+use Rattle.times.proofs.start_time.shorter.Reads as shorter
+use Rattle.times.proofs.start_time.shorter.Kinds as shorter-kinds
 use Rattle.times.proofs.start_time.update.Reads as update
 use Rattle.times.proofs.start_time.update.Kinds as update-kinds
 use Rattle.times.proofs.start_time.try_update.Reads as try-update
@@ -23,6 +25,9 @@ same-start (started.Refused m) (started.Refused n) e = cc
 
 pub one-start-faults : One 0 start-faults-kinds.ps start-faults-kinds.r start-faults.Post
 one-start-faults κs a x y s t = equal
+
+pub one-shorter : One 0 shorter-kinds.ps shorter-kinds.r shorter.Post
+one-shorter κs a x y s t = equal
 
 pub one-update : One 0 update-kinds.ps update-kinds.r update.Post
 one-update κs a x y s t = equal

@@ -8,6 +8,10 @@ use Rattle.times.specs.declared.time.Timed.{Timed}
 use Rattle.times.specs.declared.time.Timed.the-variants as timed
 use Rattle.times.specs.declared.time.Compared.{Compared}
 use Rattle.times.specs.declared.time.Compared.the-variants as compared
+use Rattle.times.proofs.time.time_at.Reads as time-at
+use Rattle.times.proofs.time.time_at.Kinds as time-at-kinds
+use Rattle.times.proofs.time.clock_time_faults.Reads as clock-time-faults
+use Rattle.times.proofs.time.clock_time_faults.Kinds as clock-time-faults-kinds
 use Rattle.times.proofs.time.from_ticks_u64.Reads as from-ticks-u64
 use Rattle.times.proofs.time.from_ticks_u64.Kinds as from-ticks-u64-kinds
 use Rattle.times.proofs.time.try_from_ticks_f64.Reads as try-from-ticks-f64
@@ -38,6 +42,12 @@ same-order (compared.Is i) (compared.Is j) e = cc
 same-order (compared.Is i) (compared.Refused n) e = cc
 same-order (compared.Refused m) (compared.Is j) e = cc
 same-order (compared.Refused m) (compared.Refused n) e = cc
+
+pub one-time-at : One 0 time-at-kinds.ps time-at-kinds.r time-at.Post
+one-time-at κs a x y s t = equal
+
+pub one-clock-time-faults : One 0 clock-time-faults-kinds.ps clock-time-faults-kinds.r clock-time-faults.Post
+one-clock-time-faults κs a x y s t = equal
 
 pub one-from-ticks-u64 : One 0 from-ticks-u64-kinds.ps from-ticks-u64-kinds.r from-ticks-u64.Post
 one-from-ticks-u64 κs a x y s t = equal

@@ -1,6 +1,7 @@
--- `floats::call` is proved: the double is read, the line ends behind it, and the name chooses the function. Assumes
+-- `floats::call` is proved: the double is read, the line ends behind it, and the call has its function. Assumes
 -- nothing.
-use mathlib.Core.Path.{refl, sym, _∙_}
+use borrow.Author.Needs.{needs}
+use mathlib.Core.Path.{sym, _∙_}
 use borrow.Author.Tests.{not-true, not-false}
 use Rattle.calls.specs.Calls.{floatsOf}
 use Rattle.calls.proofs.Replies.{line-put}
@@ -23,101 +24,62 @@ returns-2 c =
 returns-3 : tie.Need-returns-3
 unfolding floatsOf
 returns-3 c =
-    let trunc = c .before .before .before .before .before in
-    let ended = trunc .before .before .before in
+    let call = c .before .before .before .before .before in
+    let ended = call .before .before in
     let x = ended .before .before .before in
     rw (
       sym (x .before .before .float .ensures) ∙ x .x .given .1,
       sym (ended .before .ended .ensures) ∙ not-false (ended .before .ended .result) (ended .if1 .left),
-      sym (trunc .before .is .ensures) ∙ trunc .if2 .taken,
+      call .enum-told2 .given .1,
     ) (line-put _ (c .before .before .answer .ensures) (c .before .before .before .whole .ensures))
 
 returns-4 : tie.Need-returns-4
 unfolding floatsOf
 returns-4 c =
-    let fract = c .before .before .before .before .before in
-    let trunc = fract .before .before .before in
-    let ended = trunc .before .before .before in
+    let call = c .before .before .before .before .before in
+    let ended = call .before .before in
     let x = ended .before .before .before in
     rw (
       sym (x .before .before .float .ensures) ∙ x .x .given .1,
       sym (ended .before .ended .ensures) ∙ not-false (ended .before .ended .result) (ended .if1 .left),
-      sym (trunc .before .is .ensures) ∙ trunc .if2 .left,
-      sym (fract .before .is2 .ensures) ∙ fract .if3 .taken,
+      call .enum-told3 .given .1,
     ) (line-put _ (c .before .before .answer2 .ensures) (c .before .before .before .fract .ensures))
 
 returns-5 : tie.Need-returns-5
 unfolding floatsOf
 returns-5 c =
-    let ceil = c .before .before .before .before .before in
-    let fract = ceil .before .before .before in
-    let trunc = fract .before .before .before in
-    let ended = trunc .before .before .before in
+    let call = c .before .before .before .before .before in
+    let ended = call .before .before in
     let x = ended .before .before .before in
     rw (
       sym (x .before .before .float .ensures) ∙ x .x .given .1,
       sym (ended .before .ended .ensures) ∙ not-false (ended .before .ended .result) (ended .if1 .left),
-      sym (trunc .before .is .ensures) ∙ trunc .if2 .left,
-      sym (fract .before .is2 .ensures) ∙ fract .if3 .left,
-      sym (ceil .before .is3 .ensures) ∙ ceil .if4 .taken,
+      call .enum-told4 .given .1,
     ) (line-put _ (c .before .before .answer3 .ensures) (c .before .before .before .ceil .ensures))
 
 returns-6 : tie.Need-returns-6
 unfolding floatsOf
 returns-6 c =
-    let abs = c .before .before .before .before .before in
-    let ceil = abs .before .before .before in
-    let fract = ceil .before .before .before in
-    let trunc = fract .before .before .before in
-    let ended = trunc .before .before .before in
+    let call = c .before .before .before .before .before in
+    let ended = call .before .before in
     let x = ended .before .before .before in
     rw (
       sym (x .before .before .float .ensures) ∙ x .x .given .1,
       sym (ended .before .ended .ensures) ∙ not-false (ended .before .ended .result) (ended .if1 .left),
-      sym (trunc .before .is .ensures) ∙ trunc .if2 .left,
-      sym (fract .before .is2 .ensures) ∙ fract .if3 .left,
-      sym (ceil .before .is3 .ensures) ∙ ceil .if4 .left,
-      sym (abs .before .is4 .ensures) ∙ abs .if5 .taken,
+      call .enum-told5 .given .1,
     ) (line-put _ (c .before .before .answer4 .ensures) (c .before .before .before .abs .ensures))
 
 returns-7 : tie.Need-returns-7
 unfolding floatsOf
 returns-7 c =
-    let clamp = c .before .before .before .before .before in
-    let abs = clamp .before .before .before in
-    let ceil = abs .before .before .before in
-    let fract = ceil .before .before .before in
-    let trunc = fract .before .before .before in
-    let ended = trunc .before .before .before in
+    let call = c .before .before .before .before .before in
+    let ended = call .before .before in
     let x = ended .before .before .before in
     rw (
       sym (x .before .before .float .ensures) ∙ x .x .given .1,
       sym (ended .before .ended .ensures) ∙ not-false (ended .before .ended .result) (ended .if1 .left),
-      sym (trunc .before .is .ensures) ∙ trunc .if2 .left,
-      sym (fract .before .is2 .ensures) ∙ fract .if3 .left,
-      sym (ceil .before .is3 .ensures) ∙ ceil .if4 .left,
-      sym (abs .before .is4 .ensures) ∙ abs .if5 .left,
-      sym (clamp .before .is5 .ensures) ∙ clamp .if6 .taken,
+      call .enum-told6 .given .1,
     ) (line-put _ (c .before .before .answer5 .ensures) (c .before .before .before .clamp01 .ensures))
-
-returns-8 : tie.Need-returns-8
-unfolding floatsOf
-returns-8 c =
-    let abs = c .before .before .before in
-    let ceil = abs .before .before .before in
-    let fract = ceil .before .before .before in
-    let trunc = fract .before .before .before in
-    let ended = trunc .before .before .before in
-    let x = ended .before .before .before in
-    rw (
-      sym (x .before .before .float .ensures) ∙ x .x .given .1,
-      sym (ended .before .ended .ensures) ∙ not-false (ended .before .ended .result) (ended .if1 .left),
-      sym (trunc .before .is .ensures) ∙ trunc .if2 .left,
-      sym (fract .before .is2 .ensures) ∙ fract .if3 .left,
-      sym (ceil .before .is3 .ensures) ∙ ceil .if4 .left,
-      sym (abs .before .is4 .ensures) ∙ abs .if5 .left,
-      sym (c .before .is5 .ensures) ∙ c .if6 .left,
-    )
 
 pub call-spec : {M : Type 1} → statement M
 call-spec =
@@ -125,9 +87,13 @@ call-spec =
     (tie.spec
     (λ _ _. tt) (λ c. c .match .keys1) (λ c. c .match .keys2) returns
     (λ _ _. tt) returns-2
-    (λ _. refl) (λ _ _. tt) (λ _ _. tt) (λ _ _. tt) (λ c. c .before .before .answer .kept .0) returns-3
-    (λ _. refl) (λ _ _. tt) (λ _ _. tt) (λ _ _. tt) (λ c. c .before .before .answer2 .kept .0) returns-4
-    (λ _. refl) (λ _ _. tt) (λ _ _. tt) (λ _ _. tt) (λ c. c .before .before .answer3 .kept .0) returns-5
-    (λ _. refl) (λ _ _. tt) (λ _ _. tt) (λ _ _. tt) (λ c. c .before .before .answer4 .kept .0) returns-6
-    (λ _. refl) (λ _ _. tt) (λ _ _. tt) (λ _ _. tt) (λ c. c .before .before .answer5 .kept .0) returns-7
-    returns-8)
+    (λ c. search needs) (λ _ _. tt) (λ _ _. tt)
+    (λ c. search needs) (λ _ _. tt) (λ _ _. tt)
+    (λ c. search needs) (λ _ _. tt) (λ _ _. tt)
+    (λ c. search needs) (λ _ _. tt) (λ _ _. tt)
+    (λ c. search needs) (λ _ _. tt) (λ _ _. tt)
+    (λ c. c .before .before .answer .kept .0) returns-3
+    (λ c. c .before .before .answer2 .kept .0) returns-4
+    (λ c. c .before .before .answer3 .kept .0) returns-5
+    (λ c. c .before .before .answer4 .kept .0) returns-6
+    (λ c. c .before .before .answer5 .kept .0) returns-7)

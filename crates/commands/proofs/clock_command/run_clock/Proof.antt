@@ -1,13 +1,14 @@
 -- `clock_command::run_clock` meets its contract: each arm's two calls are those that the definition names for its
 -- command. Assumes nothing.
 use borrow.Author.Needs.{needs}
-use Rattle.commands.specs.ClockCommands.{runClockOf}
+use mathlib.Core.Path.{ap, _∙_}
+use Rattle.commands.specs.ClockCommands.{addedAs, runClockOf}
 use Rattle.commands.proofs.clock_command.run_clock.Statement.{statement}
 use Rattle.commands.proofs.clock_command.run_clock.Tie as tie
 
 returns : tie.Need-returns
 unfolding runClockOf
-returns c = rw (c .added .ensures, c .before .add-clock .ensures, c .before .before .before .c .given .1)
+returns c = rw (c .before .before .before .c .given .1) (c .added .ensures ∙ ap addedAs (c .before .add-clock .ensures))
 
 returns-2 : tie.Need-returns-2
 unfolding runClockOf
@@ -31,15 +32,15 @@ returns-6 c = rw (c .done5 .ensures, c .before .set-clock-speed .ensures, c .bef
 
 returns-7 : tie.Need-returns-7
 unfolding runClockOf
-returns-7 c = rw (c .time .ensures, c .before .clock-time .ensures, c .before .before .before .c7 .given .1)
+returns-7 c = rw (c .time-told .ensures, c .before .clock-time .ensures, c .before .before .before .c7 .given .1)
 
 returns-8 : tie.Need-returns-8
 unfolding runClockOf
-returns-8 c = rw (c .flag .ensures, c .before .clock-ticking .ensures, c .before .before .before .c8 .given .1)
+returns-8 c = rw (c .flag-told .ensures, c .before .clock-ticking .ensures, c .before .before .before .c8 .given .1)
 
 returns-9 : tie.Need-returns-9
 unfolding runClockOf
-returns-9 c = rw (c .speed .ensures, c .before .clock-speed .ensures, c .before .before .before .c9 .given .1)
+returns-9 c = rw (c .speed-told .ensures, c .before .clock-speed .ensures, c .before .before .before .c9 .given .1)
 
 pub run-clock-spec : {M : Type 1} → statement M
 run-clock-spec =

@@ -1,17 +1,18 @@
 -- `modulator_command::run_modulator` meets its contract: each arm's two calls are those that the definition names for
 -- its command. Assumes nothing.
 use borrow.Author.Needs.{needs}
-use Rattle.commands.specs.ModulatorCommands.{runModulatorOf}
+use mathlib.Core.Path.{ap, _∙_}
+use Rattle.commands.specs.ModulatorCommands.{addedAs, runModulatorOf}
 use Rattle.commands.proofs.modulator_command.run_modulator.Statement.{statement}
 use Rattle.commands.proofs.modulator_command.run_modulator.Tie as tie
 
 returns : tie.Need-returns
 unfolding runModulatorOf
-returns c = rw (c .added .ensures, c .before .add-tweener .ensures, c .before .before .before .c .given .1)
+returns c = rw (c .before .before .before .c .given .1) (c .added .ensures ∙ ap addedAs (c .before .add-tweener .ensures))
 
 returns-2 : tie.Need-returns-2
 unfolding runModulatorOf
-returns-2 c = rw (c .added2 .ensures, c .before .add-lfo .ensures, c .before .before .before .c2 .given .1)
+returns-2 c = rw (c .before .before .before .c2 .given .1) (c .added2 .ensures ∙ ap addedAs (c .before .add-lfo .ensures))
 
 returns-3 : tie.Need-returns-3
 unfolding runModulatorOf
@@ -35,7 +36,7 @@ returns-7 c = rw (c .done5 .ensures, c .before .set-phase .ensures, c .before .b
 
 returns-8 : tie.Need-returns-8
 unfolding runModulatorOf
-returns-8 c = rw (c .value .ensures, c .before .modulator-value .ensures, c .before .before .before .c8 .given .1)
+returns-8 c = rw (c .value-told .ensures, c .before .modulator-value .ensures, c .before .before .before .c8 .given .1)
 
 pub run-modulator-spec : {M : Type 1} → statement M
 run-modulator-spec =

@@ -2,8 +2,9 @@
 -- it stands. Assumes nothing.
 use borrow.Author.Needs.{needs}
 use Prim.Native.Nat.{_-_}
-use mathlib.Core.Path.{sym, _∙_}
+use mathlib.Core.Path.{sym, ap, _∙_}
 use mathlib.Core.Logic.{⊎-elim}
+use Rattle.clock.specs.OneClock.{toldMoved}
 use Rattle.station.proofs.frame.ClockTurns.{Left, left-all, left-skipped, left-made, left-stopped, left-none}
 use Rattle.station.proofs.frame.turn_clocks.Statement.{statement}
 use Rattle.station.proofs.frame.turn_clocks.Tie as tie
@@ -26,14 +27,14 @@ returns c =
     let test = turned .before .before in
     let turn = test .before .before in
     let before = turn .before .loop in
-    left-stopped _ _ _ (before .table) (before .seen) _ _ _ (turn .loop-test .taken) (before .inv) _ _ _ (test .if1 .taken) (sym (turned .turn-clock .ensures) ∙ c .before .n .given .1) (turn .before .before .no-report .ensures)
+    left-stopped _ _ _ (before .table) (before .seen) _ _ _ (turn .loop-test .taken) (before .inv) _ _ _ (test .if1 .taken) (sym (turned .turn-clock .ensures) ∙ ap toldMoved (c .before .n .given .1)) (turn .before .before .no-report .ensures)
 
 loop-again : tie.Need-loop-again Inv-loop μ-loop
 loop-again c =
     let turn = c .before .before in
     let before = turn .before .loop in
     ⊎-elim
-    (λ w. left-made _ _ _ (before .table) (before .seen) _ _ _ (turn .loop-test .taken) (before .inv) _ _ _ _ _ _ (w .0 .taken) (sym (w .2 .ensures) ∙ w .4 .given .1) (w .8 .ensures) (w .9) (w .10) (w .11))
+    (λ w. left-made _ _ _ (before .table) (before .seen) _ _ _ (turn .loop-test .taken) (before .inv) _ _ _ _ _ _ (w .0 .taken) (sym (w .2 .ensures) ∙ ap toldMoved (w .4 .given .1)) (w .8 .ensures) (w .9) (w .10) (w .11))
     (λ w. left-skipped _ _ _ (before .table) (before .seen) _ _ _ (turn .loop-test .taken) (before .inv) _ _ _ (w .0 .left) (w .1) (w .2) (w .3))
     (c .if1 .came)
 

@@ -4,7 +4,7 @@ use mathlib.Core.Path.{sym, subst}
 use native.Mathlib.Omega.{arith}
 use lib.Dec.{T}
 use lib.Ieee.{binary64, fits}
-use Rattle.times.proofs.duration.Spans.{tiny, huge, over, back-le, n-lt, down-to, up-from, up-by-low, to-even}
+use Rattle.times.proofs.duration.Spans.{tiny, huge, not-above, below, too-long, too-much, in-all}
 use Rattle.times.proofs.duration.nanos.Statement.{statement}
 use Rattle.times.proofs.duration.nanos.Tie as tie
 
@@ -20,74 +20,66 @@ returns c =
     let at = c .before in
     sym (tiny (at .before .args .dt) (fits-dt (at .before)) (at .bits .result) (at .bits .ensures) (c .if1 .taken))
 
-returns-2 : tie.Need-returns-2
-returns-2 c =
-    let at = c .before .before in
-    sym (huge (at .before .args .dt) (fits-dt (at .before)) (at .bits .result) (at .bits .ensures) (c .if2 .taken))
-
-returns-3 : tie.Need-returns-3
-returns-3 c = sym (over (c .before .before .before .before .args .dt) (c .if3 .taken))
-
 add-q : tie.Need-add-q
 add-q c = search needs
 
-mul-low : tie.Need-mul-low
-mul-low c = search needs
+sub-rounded : tie.Need-sub-rounded
+sub-rounded c = search needs
 
-mul-high : tie.Need-mul-high
-mul-high c = search needs
+rounded-requires : tie.Need-rounded-requires
+rounded-requires c κs = search needs
 
-add-high : tie.Need-add-high
-add-high c = search needs
+returns-2 : tie.Need-returns-2
+returns-2 c =
+    let at = c .before .before .before in
+    below (at .before .args .dt) (fits-dt (at .before)) (at .bits .result) (at .bits .ensures) (c .rounded .result) (c .before .before .if1 .left) (c .before .if2 .taken) (omega arith) (c .rounded .ensures)
 
-sub-k : tie.Need-sub-k
-sub-k c = search needs
-
-shr-n : tie.Need-shr-n
-shr-n c = search needs
-
-shl-rest : tie.Need-shl-rest
-shl-rest c = search needs
-
-sub-rest : tie.Need-sub-rest
-sub-rest c = back-le (c .before .before .before .bits .result)
-
-sub-half : tie.Need-sub-half
-sub-half c = search needs
-
-shl-half : tie.Need-shl-half
-shl-half c = search needs
+returns-3 : tie.Need-returns-3
+returns-3 c =
+    let at = c .before .before .before .before in
+    sym (huge (at .before .args .dt) (fits-dt (at .before)) (at .bits .result) (at .bits .ensures) (c .before .if3 .taken) (c .if4 .taken))
 
 returns-4 : tie.Need-returns-4
-returns-4 c =
-    let at = c .before .before .before .before in
-    down-to (at .before .args .dt) (fits-dt (at .before)) (at .bits .result) (at .bits .ensures) (c .before .before .before .if1 .left) (c .before .before .if2 .left) (c .before .if3 .left) (c .if4 .taken)
+returns-4 c = sym (not-above (c .before .before .before .before .before .args .dt) (c .if4 .left))
 
-add-result : tie.Need-add-result
-add-result c = omega (arith, n-lt (c .before .before .before .before .before .bits .result))
+sub-seconds : tie.Need-sub-seconds
+sub-seconds c = search needs
+
+shr-seconds : tie.Need-shr-seconds
+shr-seconds c = search needs
 
 returns-5 : tie.Need-returns-5
 returns-5 c =
-    let at = c .before .before .before .before .before in
-    up-from (at .before .args .dt) (fits-dt (at .before)) (at .bits .result) (at .bits .ensures) (c .before .before .before .before .if1 .left) (c .before .before .before .if2 .left) (c .before .before .if3 .left) (c .if5 .taken)
+    let on = c .before in
+    let at = on .before .before .before in
+    too-long (at .before .args .dt) (fits-dt (at .before)) (at .bits .result) (at .bits .ensures) (on .before .if2 .left) (on .if3 .left) (c .if5 .taken)
 
-add-result-2 : tie.Need-add-result-2
-add-result-2 c = omega (arith, n-lt (c .before .before .before .before .before .before .bits .result))
+mul-full : tie.Need-mul-full
+mul-full c = search needs
+
+shl-rounded : tie.Need-shl-rounded
+shl-rounded c = search needs
+
+rounded-requires-2 : tie.Need-rounded-requires-2
+rounded-requires-2 c κs = search needs
+
+sub-if6 : tie.Need-sub-if6
+sub-if6 c = search needs
 
 returns-6 : tie.Need-returns-6
 returns-6 c =
-    let on = c .before .before in
-    let at = on .before .before .before .before in
-    up-by-low (at .before .args .dt) (fits-dt (at .before)) (at .bits .result) (at .bits .ensures) (on .before .before .before .if1 .left) (on .before .before .if2 .left) (on .before .if3 .left) (on .if4 .left) (c .before .if5 .left) (c .if6 .taken)
+    let on = c .before .before .before in
+    let at = on .before .before .before in
+    too-much (at .before .args .dt) (fits-dt (at .before)) (at .bits .result) (at .bits .ensures) (on .before .if2 .left) (on .if3 .left) (c .before .rounded2 .result) (c .before .rounded2 .ensures) (c .if6 .taken)
 
-add-result-3 : tie.Need-add-result-3
-add-result-3 c = omega (arith, n-lt (c .before .before .before .before .before .before .bits .result))
+add-result : tie.Need-add-result
+add-result c = search needs
 
 returns-7 : tie.Need-returns-7
 returns-7 c =
-    let on = c .before .before in
-    let at = on .before .before .before .before in
-    to-even (at .before .args .dt) (fits-dt (at .before)) (at .bits .result) (at .bits .ensures) (on .before .before .before .if1 .left) (on .before .before .if2 .left) (on .before .if3 .left) (on .if4 .left) (c .before .if5 .left) (c .if6 .left)
+    let on = c .before .before .before in
+    let at = on .before .before .before in
+    in-all (at .before .args .dt) (fits-dt (at .before)) (at .bits .result) (at .bits .ensures) (on .before .if2 .left) (on .if3 .left) (c .before .rounded2 .result) (c .before .rounded2 .ensures) (c .before .before .if5 .left) (c .if6 .left)
 
 pub nanos-spec : {M : Type 1} → statement M
 nanos-spec =
@@ -95,22 +87,19 @@ nanos-spec =
     (tie.spec
     bits-requires
     returns
+    add-q
+    sub-rounded
+    rounded-requires
     returns-2
     returns-3
-    add-q
-    mul-low
-    mul-high
-    add-high
-    sub-k
-    shr-n
-    shl-rest
-    sub-rest
-    sub-half
-    shl-half
     returns-4
-    add-result
+    sub-seconds
+    shr-seconds
     returns-5
-    add-result-2
+    mul-full
+    shl-rounded
+    rounded-requires-2
+    sub-if6
     returns-6
-    add-result-3
+    add-result
     returns-7)

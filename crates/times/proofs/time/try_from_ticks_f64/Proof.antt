@@ -42,8 +42,9 @@ fract-requires c κs = search needs
 returns-2 : tie.Need-returns-2
 unfolding tryFromFloatOf
 returns-2 c =
-    let at = c .before .before in
-    rw (c .before .to-u64 .ensures, c .fract .ensures) (accepts _ _ (at .before .first-fault .ensures) (faults (at .before .before)) (at .if1 .left))
+    let f = c .before in
+    let at = f .before .before in
+    rw (c .time-at .ensures, f .before .to-u64 .ensures, f .fract .ensures) (accepts _ _ (at .before .first-fault .ensures) (faults (at .before .before)) (at .if1 .left))
 
 pub try-from-ticks-f64-spec : {M : Type 1} → statement M
 try-from-ticks-f64-spec =
@@ -57,4 +58,5 @@ try-from-ticks-f64-spec =
     returns
     to-u64-requires
     fract-requires
+    (λ _ _. tt)
     returns-2)
