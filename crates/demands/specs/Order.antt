@@ -1,7 +1,7 @@
 -- Demand 1: the order in which the conditions are asked, and when one decides. 01, "Refusal numbers". RULES, order.
 -- Assumes nothing.
 use Prim.Native.Nat.{ℕ}
-use mathlib.Core.Path.{_≡_}
+use mathlib.Core.Path.{_≡_, refl}
 use mathlib.Core.Bool.{Bool, true, false, _||_, cond}
 use mathlib.Core.List.{List, [], _∷_, map}
 use lib.Dec.{eqb}
@@ -11,6 +11,11 @@ use Rattle.judge.specs.Judge.{Conditions, ofArguments, noFaults, Judged, inOrde
 -- every number, as the one list of the crate `judge` asks them: RULES, order
 abbrev pub order : List ℕ
 order = map (λ j. j .number) (inOrder (ofArguments noFaults))
+
+-- The same in digits, written from 01 and not from `judge`: so the names, the numbers and the list cannot all be wrong
+-- together.
+pub counted : order ≡ 7 ∷ 1 ∷ 2 ∷ 3 ∷ 4 ∷ 5 ∷ 6 ∷ 8 ∷ 9 ∷ 10 ∷ 11 ∷ 12 ∷ []
+counted = refl
 
 -- whether the condition of a number holds
 abbrev pub holdsIn : List Judged → ℕ → Bool
