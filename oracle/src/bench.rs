@@ -5,6 +5,7 @@ mod curves;
 mod floats;
 mod frames;
 mod judge;
+mod less;
 mod lines;
 mod mappings;
 mod modulators;
@@ -18,13 +19,14 @@ mod tests;
 mod times;
 mod words;
 
-use std::{io, process::ExitCode};
+use std::{env, io, process::ExitCode};
 
 use judge::Faults;
 use station::Station;
 use words::Words;
 
-/// Answers standard input until its end.
+/// Answers standard input until its end. With the argument `--counts`, what was counted on the way comes on standard
+/// error.
 pub(crate) fn run() -> ExitCode {
     let mut station = Station::new();
     let served = lines::serve(io::stdin().lock(), io::stdout().lock(), |line| {
@@ -33,6 +35,9 @@ pub(crate) fn run() -> ExitCode {
     if let Err(error) = served {
         eprintln!("{error}");
         return ExitCode::FAILURE;
+    }
+    if env::args().nth(1).is_some_and(|word| word == "--counts") {
+        eprintln!("{}", less::counts());
     }
     ExitCode::SUCCESS
 }

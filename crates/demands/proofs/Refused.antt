@@ -12,7 +12,7 @@ use Rattle.judge.specs.Answer.{Answer, accepted, refused, isRefused, numberTold
 use Rattle.judge.specs.Judge.{ofReport, ofShift, bothFaults, dtFaults, floatFaults, numberOf, firstFault, judged}
 use Rattle.judge.specs.declared.Faults.{Faults}
 use Rattle.times.specs.Starts.{startFaults, tryUpdateOf}
-use Rattle.times.specs.Times.{clockTimeFaults, shiftFaults, tooMany, ticksMore, tryAddTicksOf, trySubTicksOf, laterOf, earlierOf, tryAddFloatOf, trySubFloatOf}
+use Rattle.times.specs.Times.{clockTimeFaults, shiftFaults, tooMany, ticksMore, tooLittle, tryAddTicksOf, trySubTicksOf, laterOf, earlierOf, tryAddFloatOf, trySubFloatOf}
 use Rattle.times.specs.declared.time.ClockId.{ClockId}
 use Rattle.times.specs.declared.time.ClockTime.{ClockTime}
 use Rattle.values.specs.Speeds.{speedFaults}
@@ -100,7 +100,7 @@ later-numbered t x = numbered-decided (numberOf (ofShift (shiftFaults t x) (tooM
 
 earlier-numbered : (t : ClockTime) (x : Float) → Numbered (earlierOf t x)
 unfolding earlierOf
-earlier-numbered t x = numbered-decided (numberOf (ofShift (shiftFaults t x) false false)) _
+earlier-numbered t x = numbered-decided (numberOf (ofShift (shiftFaults t x) false (tooLittle t x))) _
 
 shift-numbered : (t : ClockTime) (s : Shift) → Numbered (shiftedOf t s)
 unfolding tryAddTicksOf trySubTicksOf tryAddFloatOf trySubFloatOf

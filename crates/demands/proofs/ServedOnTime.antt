@@ -1,26 +1,26 @@
 -- Demand 3, over every sequence of calls on the station: a started clock keeps the exact sum of its advances, and a
 -- parameter that waits for it begins on the update whose sum reaches what it waits for. 01, "How far each statement
 -- binds". RULES, served. Assumes nothing.
-use Prim.Native.Nat.{ℕ}
+use Prim.Native.Nat.{ℕ, _^_}
 use native.Mathlib.Nat.{zero-add}
 use mathlib.Core.Path.{_≡_, ap, _∙_}
 use mathlib.Core.Bool.{false}
 use mathlib.Core.List.{List}
 use lib.Ieee.{Float}
 use Rattle.judge.specs.Judge.{badFraction}
+use Rattle.times.specs.Times.{placeAt}
 use Rattle.times.specs.declared.time.ClockId.{ClockId}
+use Rattle.times.proofs.time.Places.{Fraction, fraction, not-refused}
 use Rattle.clock.specs.OneClock.{positionOf}
 use Rattle.clock_table.specs.ClockTables.{timeOf, clockTimeOf}
 use Rattle.station.specs.declared.Station.{Station}
 use Rattle.laws.specs.Sound.{Double}
 use Rattle.laws.specs.SoundStation.{All}
 use Rattle.laws.proofs.lemmas.Entries.{names-read}
-use Rattle.demands.specs.Events.{Event, afterEvents, placeAt, advancesOf, total, sumsFrom, dtsOf, firstPass}
+use Rattle.demands.specs.Events.{Event, afterEvents, advancesOf, total, sumsFrom, dtsOf, firstPass}
 use Rattle.demands.specs.Kinds.{Progress, Kind, floatKind, speedKind, progressOf, progressBySums}
 use Rattle.demands.specs.Served.{Fresh, started, Kept, Grid, Run, Stands, awaited, OnceSet, Served}
 use Rattle.demands.proofs.lemmas.Courses.{run-course, run-progress}
-use Rattle.demands.proofs.lemmas.Due.{Fraction, fraction}
-use Rattle.demands.proofs.lemmas.Exact.{parts-fraction}
 use Rattle.demands.proofs.lemmas.Going.{Going, start-goes}
 use Rattle.demands.proofs.lemmas.Runs.{run-goes, run-tests, first-same}
 use Rattle.demands.proofs.lemmas.Shapes.{float-shape, speed-shape}
@@ -32,7 +32,7 @@ unfolding clockTimeOf
 stands st id n g = record {
   time = timeOf id (g .clock);
   told = names-read (st .clocks) id (g .clock) (g .names) (timeOf id);
-  fraction = parts-fraction (positionOf (g .clock .state) .fraction) (g .standing .part) (g .standing .parts) (g .standing .short);
+  fraction = not-refused (positionOf (g .clock .state) .fraction) (g .standing .part) (2 ^ 32) (g .standing .parts) (g .standing .short);
   place = g .standing .place;
 }
 
@@ -86,7 +86,7 @@ module _ {st : Station} {id : ClockId} {es : List Event} (r : Run st id es) (tic
 --                       each answer whole, with no clock asked, and `times` the tween's time, which stands at 0 until
 --                       that update and gains dt from it on. Its updates see the station as it stands then: a caller
 --                       who updates by an `Info` from before the frame has another course.
--- `scaled` is a double's value times 2^1074, and `scaled-value` of `Exact` shows that it loses nothing.
+-- `scaled` is a double's value times 2^1074, and `scaled-value` of `Scaled` in `doubles` shows that it loses nothing.
 --
 -- Which wrong programs it rules out: one that drops the awaited fraction, by `tests` and `first`; one that ignores the
 -- start test, or begins an update early or late, by `times`, whose step is written apart from the code's. A first

@@ -14,7 +14,7 @@ use Rattle.ticks.specs.WholeTicks.{roomFor, takenOf}
 use Rattle.judge.specs.Answer.{Answer, accepted, refused}
 use Rattle.judge.specs.Judge.{numberOf, firstFault}
 use Rattle.values.specs.declared.clock_speed.ClockSpeed.the-variants.{TicksPerSecond}
-use Rattle.times.specs.Times.{timeAt}
+use Rattle.times.specs.Times.{timeAt, placeAt}
 use Rattle.times.specs.declared.time.ClockId.{ClockId}
 use Rattle.times.specs.declared.time.ClockTime.{ClockTime}
 use Rattle.values.specs.declared.value.SpeedValue.{SpeedValue}
@@ -31,7 +31,7 @@ use Rattle.station.specs.declared.Station.{Station}
 use Rattle.laws.specs.Calls.{clock, frame, after, callNumber}
 use Rattle.laws.specs.SoundStation.{All}
 use Rattle.laws.proofs.lemmas.Entries.{names-read}
-use Rattle.demands.specs.Events.{Event, afterEvents, placeAt, advanceIn, advancesOf, total}
+use Rattle.demands.specs.Events.{Event, afterEvents, advanceIn, advancesOf, total}
 use Rattle.demands.specs.Served.{Fresh, started, Kept, Grid}
 use Rattle.demands.proofs.lemmas.Going.{Going, call-goes, start-goes}
 use Rattle.demands.proofs.lemmas.Runs.{run-goes}

@@ -11,7 +11,7 @@ use mathlib.Core.List.{List, [], _∷_}
 use lib.IntN.{pos, negsuc}
 use lib.Dec.{lit≤}
 use lib.Ieee.{Float, fin, add, sub, mul, div, lt, le, eq, fits, toUnsigned, ofInt}
-use Rattle.doubles.specs.Doubles.{zeroF, oneF, halfF}
+use Rattle.doubles.specs.Doubles.{zeroF, oneF, halfF, scaled}
 use Rattle.ids.specs.Keys.{freeOf, livesIn, findOf}
 use Rattle.ids.specs.Lists.{readAt}
 use Rattle.ticks.specs.WholeTicks.{roomFor, takenOf}
@@ -19,7 +19,7 @@ use Rattle.times.specs.Durations.{secondsOf}
 use Rattle.judge.specs.Judge.{numberOf, firstFault}
 use Rattle.judge.specs.Numbers.{«NO_SUCH», «TOO_FAR»}
 use Rattle.values.specs.Speeds.{interpolateSpeedOf}
-use Rattle.times.specs.Times.{orderOf}
+use Rattle.times.specs.Times.{orderOf, placeAt}
 use Rattle.values.specs.declared.clock_speed.ClockSpeed.the-variants.{TicksPerSecond}
 use Rattle.times.specs.declared.start_time.StartTime.the-variants.{Immediate, At}
 use Rattle.times.specs.declared.time.ClockId.{ClockId}
@@ -50,7 +50,7 @@ use Rattle.station.specs.Turns.{turnClock, turnModulator}
 use Rattle.station.specs.declared.Station.{Station}
 use Rattle.laws.specs.Calls.{Call, clock, modulator, frame, after, afterAll, ofClock, named, told, callNumber}
 use Rattle.laws.specs.SoundStation.{All}
-use Rattle.demands.specs.Events.{Event, call, update, moves, scaled, placeAt, advanceIn, advancesOf, total, sumsFrom, inOrder, testsOf, at, firstPass, firstReach}
+use Rattle.demands.specs.Events.{Event, call, update, moves, advanceIn, advancesOf, total, sumsFrom, inOrder, testsOf, at, firstPass, firstReach}
 use Rattle.demands.specs.Kinds.{floatKind, resting, running, courseOf, progressOf}
 use Rattle.demands.specs.Served.{started, Kept, Grid, Run, awaited, Begins, Served}
 use Rattle.demands.proofs.FreshClocks.{Spares, reached-fresh}

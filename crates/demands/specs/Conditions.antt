@@ -1,13 +1,13 @@
 -- Demand 1: which conditions of the refusal table hold of a call's arguments, each judged by itself, whatever else is
 -- wrong. 01, "Refusal numbers". RULES, refusal-numbers. Assumes nothing.
-use Prim.Native.Nat.{ℕ, zero, suc, _+_, _-_, _^_}
+use Prim.Native.Nat.{ℕ, zero, suc, _+_, _-_, _*_, _^_}
 use mathlib.Core.Bool.{Bool, true, false, not, _&&_, _||_, cond}
 use mathlib.Core.List.{List, [], _∷_}
 use lib.IntN.{pos}
 use lib.ListN.{length}
 use lib.Dec.{ltb}
 use lib.Ieee.{Float, fin, neg, lt}
-use Rattle.doubles.specs.Doubles.{signOf}
+use Rattle.doubles.specs.Doubles.{signOf, scaled}
 use Rattle.ids.specs.Lists.{readAt}
 use Rattle.ids.specs.declared.Key.{Key}
 use Rattle.ticks.specs.WholeTicks.{takenOf}
@@ -165,13 +165,18 @@ past n = ltb (2 ^ 64 - 1) n
 abbrev pub pastBy : ClockTime → Float → Bool
 pastBy t x = past (t .ticks + ticksMore t x)
 
--- BEFORE_ZERO of whole ticks: RULES, before-zero. A double with its sign bit set is the opposite call (RULES,
--- opposite); one that is subtracted stops at 0, so BEFORE_ZERO is not asked of it, and TICKS_FULL only of what is added
+-- BEFORE_ZERO, of an amount that is subtracted: ticks and fraction, as one exact number, are smaller: RULES,
+-- before-zero. It is a matter of sizes: a fraction with a minus sign, and what is no number, is refused before it
+abbrev pub smaller : ClockTime → Float → Bool
+smaller t x = ltb (t .ticks * 2 ^ 1074 + scaled (t .fraction)) (scaled x)
+
+-- Whole ticks: 10 for those that are added, 12 for those that are subtracted. A double with its sign bit set is the
+-- opposite call (RULES, opposite), so 10 is asked where it is added in the end, and 12 where it is subtracted
 abbrev pub ofShift : ClockTime → Shift → Conditions
 ofShift t (addTicks n) = judge.ofShift (clockTimeFaults t) (past (t .ticks + n)) false
 ofShift t (subTicks n) = judge.ofShift (clockTimeFaults t) false (ltb (t .ticks) n)
-ofShift t (addFloat x) = judge.ofShift (shiftFaults t x) (not (signOf x) && pastBy t x) false
-ofShift t (subFloat x) = judge.ofShift (shiftFaults t x) (signOf x && pastBy t (neg x)) false
+ofShift t (addFloat x) = judge.ofShift (shiftFaults t x) (not (signOf x) && pastBy t x) (signOf x && smaller t (neg x))
+ofShift t (subFloat x) = judge.ofShift (shiftFaults t x) (signOf x && pastBy t (neg x)) (not (signOf x) && smaller t x)
 
 -- ---- every call
 

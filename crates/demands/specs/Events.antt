@@ -1,10 +1,11 @@
 -- Demand 3: what a run is made of, and what is read off it, in whole numbers: a double stands as its size in units of
 -- 2^-1074. 01, "How far each statement binds". RULES, served. Assumes nothing.
-use Prim.Native.Nat.{ℕ, suc, _+_, _*_, _/_, _^_}
+use Prim.Native.Nat.{ℕ, suc, _+_}
 use mathlib.Core.Bool.{Bool, false, not, _&&_, _||_, cond}
 use mathlib.Core.List.{List, [], _∷_, _++_}
 use lib.Dec.{eqb, leb}
-use lib.Ieee.{Float, nan, inf, fin, up, down}
+use lib.Ieee.{Float}
+use Rattle.doubles.specs.Doubles.{scaled}
 use Rattle.judge.specs.Answer.{Answer, accepted, refused}
 use Rattle.judge.specs.Judge.{badDt}
 use Rattle.times.specs.declared.time.ClockId.{ClockId}
@@ -44,16 +45,6 @@ moves st (modulator c) = false
 moves st (frame dt) = eqb (frameOf st dt .refused) 0
 
 -- ---- sums
-
--- a double's size times 2^1074: a whole number for each finite double
-unfoldable pub scaled : Float → ℕ
-scaled nan = 0
-scaled (inf s) = 0
-scaled (fin s m e) = m * up e * 2 ^ 1074 / down e
-
--- ticks and fraction as one number: RULES, exact-sum
-abbrev pub placeAt : ℕ → Float → ℕ
-placeAt n f = n * 2 ^ 1074 + scaled f
 
 -- how far the clock goes, by the speed that it has once it was updated: RULES, advance
 abbrev pub advanceBy : Answer Clock → Float → List Float

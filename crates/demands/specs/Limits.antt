@@ -6,6 +6,7 @@ use mathlib.Core.Bool.{Bool, true, false}
 use mathlib.Core.List.{List, [], _∷_, _++_}
 use lib.Dec.{T, eqb}
 use lib.Ieee.{Float, binary64, ofBits, add, sub, mul, div, rem, neg, lt, le, eq, toUnsigned}
+use Rattle.doubles.specs.Doubles.{scaled}
 use Rattle.judge.specs.Answer.{numberTold}
 use Rattle.judge.specs.Judge.{numberOf, firstFault, dtFaults}
 use Rattle.judge.specs.Numbers.{«BAD_DT», «BAD_FLOAT», «BAD_SPEED», «BAD_EASE», «BAD_MAP», «BAD_TIME», «TICKS_FULL», «BEFORE_ZERO»}
@@ -68,6 +69,9 @@ double b = ofBits binary64 b
 abbrev one : Float
 one = double 0x3ff0_0000_0000_0000
 
+abbrev half : Float
+half = double 0x3fe0_0000_0000_0000
+
 abbrev three : Float
 three = double 0x4008_0000_0000_0000
 
@@ -93,6 +97,13 @@ fifthAt g = timeAt first 5 g
 
 abbrev lastAt : Float → ClockTime
 lastAt g = timeAt first 18_446_744_073_709_551_615 g
+
+-- tick 2^40, from which every accepted amount leads to a time, and the time 2^-53 before it
+abbrev middle : ClockTime
+middle = timeAt first 1_099_511_627_776 (double 0)
+
+abbrev nearly : ClockTime
+nearly = timeAt first 1_099_511_627_775 (double 0x3fef_ffff_ffff_ffff)
 
 abbrev tweenOf : StartTime → ℕ → Easing → Tween
 tweenOf s n e = record { «start_time» = s; duration = n; easing = e }
@@ -326,13 +337,29 @@ timeCalls =
     ∷ limit (numberTold (trySubFloatOf (lastAt (double 0x3fd0_0000_0000_0000)) (double 0xbfe0_0000_0000_0000))) 0
     ∷ limit (numberTold (trySubFloatOf (lastAt (double 0x3fe0_0000_0000_0000)) (double 0xbfe0_0000_0000_0000))) «TICKS_FULL»
     ∷ limit (numberTold (trySubFloatOf (lastAt (double 0x3fe0_0000_0000_0000)) (double 0x3fe0_0000_0000_0000))) 0
-    ∷ limit (numberTold (trySubFloatOf (fifthAt (double 0)) (double 0x4018_0000_0000_0000))) 0
+    -- 5 and a half off (5, 0.5), and the next double; the same added as a negative amount
+    ∷ limit (numberTold (trySubFloatOf (fifthAt half) (double 0x4016_0000_0000_0000))) 0
+    ∷ limit (numberTold (trySubFloatOf (fifthAt half) (double 0x4016_0000_0000_0001))) «BEFORE_ZERO»
+    ∷ limit (numberTold (tryAddFloatOf (fifthAt half) (double 0xc016_0000_0000_0000))) 0
+    ∷ limit (numberTold (tryAddFloatOf (fifthAt half) (double 0xc016_0000_0000_0001))) «BEFORE_ZERO»
+    -- 2^40 off a time that is 2^-53 less: their sum, rounded, would be 2^40
+    ∷ limit (numberTold (trySubFloatOf nearly (double 0x4270_0000_0000_0000))) «BEFORE_ZERO»
+    ∷ limit (numberTold (tryAddFloatOf nearly (double 0xc270_0000_0000_0000))) «BEFORE_ZERO»
+    -- 6 off (5, 0.5), and 5 off; the least double off (0, 0.0), and off itself
+    ∷ limit (numberTold (trySubFloatOf (fifthAt half) (double 0x4018_0000_0000_0000))) «BEFORE_ZERO»
+    ∷ limit (numberTold (trySubFloatOf (fifthAt half) (double 0x4014_0000_0000_0000))) 0
+    ∷ limit (numberTold (trySubFloatOf (timeAt first 0 (double 0)) (double 1))) «BEFORE_ZERO»
+    ∷ limit (numberTold (trySubFloatOf (timeAt first 0 (double 1)) (double 1))) 0
+    ∷ limit (numberTold (tryAddFloatOf (timeAt first 0 (double 0)) (double 0x8000_0000_0000_0000))) 0
+    -- 2, 6 and 12 at once: a float first, then a fraction
+    ∷ limit (numberTold (trySubFloatOf (fifthAt (double 0x3ff0_0000_0000_0000)) (double 0x4270_0000_0000_0001))) «BAD_FLOAT»
+    ∷ limit (numberTold (trySubFloatOf (fifthAt (double 0x3ff0_0000_0000_0000)) (double 0x4270_0000_0000_0000))) «BAD_TIME»
     ∷ fractions (λ g. numberTold (tryAddTicksOf (fifthAt g) 1))
     ++ fractions (λ g. numberTold (trySubTicksOf (fifthAt g) 1))
     ++ fractions (λ g. numberTold (tryAddFloatOf (fifthAt g) one))
-    ++ doubles (λ x. numberTold (tryAddFloatOf (fifthAt (double 0)) x))
+    ++ doubles (λ x. numberTold (tryAddFloatOf middle x))
     ++ fractions (λ g. numberTold (trySubFloatOf (fifthAt g) one))
-    ++ doubles (λ x. numberTold (trySubFloatOf (fifthAt (double 0)) x))
+    ++ doubles (λ x. numberTold (trySubFloatOf middle x))
     ++ fractions (λ g. numberTold (tryOrderOf (fifthAt g) (fifthAt (double 0))))
     ++ fractions (λ g. numberTold (tryOrderOf (fifthAt (double 0)) (fifthAt g)))
     ++ spans (λ n. numberTold (trySecondsOf n))
@@ -373,5 +400,5 @@ table = alone ++ speedSets ++ floatSets ++ modulators ++ made ++ speedCalls ++ t
 -- The one claim. It shows that no argument is forgotten and no limit is moved in the definitions of arguments' faults,
 -- which `exactly` takes as they are. Between the rows it says nothing: there the definitions are read against RULES.
 pub limits : T (all table)
-unfolding all table numberOf firstFault ofBits add sub mul div rem neg lt le eq toUnsigned tryInterpolateOf trySptOf tryTpsOf tryTpmOf tryInterpolateSpeedOf trySecondsOf tryUpdateOf tryFromFloatOf tryAddTicksOf trySubTicksOf laterOf earlierOf tryAddFloatOf trySubFloatOf tryOrderOf tryApplyOf tryMapFloatOf tryMapSpeedOf tryMapOutputOf tryValueOutputOf tryWaveValueOf tryWhenToStartOf tryRawFloatIn tryRawSpeedIn floats.tryNewOf speeds.tryNewOf
+unfolding all table numberOf firstFault scaled ofBits add sub mul div rem neg lt le eq toUnsigned tryInterpolateOf trySptOf tryTpsOf tryTpmOf tryInterpolateSpeedOf trySecondsOf tryUpdateOf tryFromFloatOf tryAddTicksOf trySubTicksOf laterOf earlierOf tryAddFloatOf trySubFloatOf tryOrderOf tryApplyOf tryMapFloatOf tryMapSpeedOf tryMapOutputOf tryValueOutputOf tryWaveValueOf tryWhenToStartOf tryRawFloatIn tryRawSpeedIn floats.tryNewOf speeds.tryNewOf
 limits = tt

@@ -1,12 +1,15 @@
--- 01, "Worked rows": the starred ones, as one table with one claim. Each row is computed through the very definitions
--- that the entries' contracts cite. Doubles are written by their bits. RULES, worked-rows. Assumes nothing.
+-- 01, "Worked rows": the starred ones, two of them as document 02, Req 01, changes them, as one table with one claim.
+-- Each row is computed through the very definitions that the entries' contracts cite. Doubles are written by their
+-- bits. RULES, worked-rows. Assumes nothing.
 use Prim.Native.Nat.{ℕ}
 use mathlib.Core.Bool.{Bool, true, false}
 use mathlib.Core.List.{List, [], _∷_, _++_}
 use lib.Dec.{T, eqb}
 use lib.Ieee.{Float, binary64, ofBits, toBits, add, sub, mul, div, rem, lt, le, eq, toUnsigned, ofInt}
+use Rattle.doubles.specs.Doubles.{scaled}
 use Rattle.judge.specs.Answer.{Answer, accepted, refused}
 use Rattle.judge.specs.Judge.{numberOf, firstFault}
+use Rattle.judge.specs.Numbers.{«BEFORE_ZERO»}
 use Rattle.values.specs.Speeds.{tryTpsOf}
 use Rattle.times.specs.Durations.{nanosOf, secondsOf}
 use Rattle.times.specs.Times.{timeAt, tryFromFloatOf, tryAddFloatOf, trySubFloatOf, laterOf, earlierOf}
@@ -175,10 +178,10 @@ rows =
     ∷ plus 2 0x3fe0_0000_0000_0000 0x3ffc_0000_0000_0000 (0 ∷ 4 ∷ 0x3fd0_0000_0000_0000 ∷ [])
     -- 1.25 less
     ∷ minus 5 0x3fe0_0000_0000_0000 0x3ff4_0000_0000_0000 (0 ∷ 4 ∷ 0x3fd0_0000_0000_0000 ∷ [])
-    -- half a tick less, near 0: the ticks stop at 0
-    ∷ minus 0 0x3fd0_0000_0000_0000 0x3fe0_0000_0000_0000 (0 ∷ 0 ∷ 0x3fe8_0000_0000_0000 ∷ [])
-    -- a fraction that rounds up to 1 and so becomes 0
-    ∷ minus 5 0 0x3c30_0000_0000_0000 (0 ∷ 4 ∷ 0 ∷ [])
+    -- half a tick less than a quarter of one: there is too little
+    ∷ minus 0 0x3fd0_0000_0000_0000 0x3fe0_0000_0000_0000 («BEFORE_ZERO» ∷ [])
+    -- a difference that with a borrowed tick rounds to a whole one, and gives it back
+    ∷ minus 5 0 0x3c30_0000_0000_0000 (0 ∷ 5 ∷ 0 ∷ [])
     -- 120 a minute, read in ticks per second
     ∷ perMinute 0x405e_0000_0000_0000 (0 ∷ 0x4000_0000_0000_0000 ∷ [])
     -- a clock at speed 0 reports its start once, and then no tick
@@ -201,5 +204,5 @@ rows =
 
 -- the one claim
 pub worked : T (all rows)
-unfolding all rows numberOf firstFault add sub mul div rem lt le eq toUnsigned ofInt nanosOf secondsOf applyOf tweenValueOf stepOf tweenedOf updateOf tryUpdateOf trySetOf speeds.updateOf speeds.tweenedOf freeOf livesIn findOf readAt roomFor takenOf tickOf updateClockOf addClockOf tickOnOf clockTimeOf runClockOf infoIn turnClock modulatorTurns modulatorsTurned clockTurns clocksTurned frameOf afterAll
+unfolding all rows numberOf firstFault scaled add sub mul div rem lt le eq toUnsigned ofInt nanosOf secondsOf applyOf tweenValueOf stepOf tweenedOf updateOf tryUpdateOf trySetOf speeds.updateOf speeds.tweenedOf freeOf livesIn findOf readAt roomFor takenOf tickOf updateClockOf addClockOf tickOnOf clockTimeOf runClockOf infoIn turnClock modulatorTurns modulatorsTurned clockTurns clocksTurned frameOf afterAll
 worked = tt

@@ -6,10 +6,10 @@ use mathlib.Core.Bool.{Bool, true, false, _&&_}
 use mathlib.Core.List.{List, [], _∷_, map}
 use lib.Dec.{eqb, leb}
 use lib.Ieee.{Float}
-use Rattle.doubles.specs.Doubles.{finiteOf, signOf}
+use Rattle.doubles.specs.Doubles.{finiteOf, signOf, scaled}
 use Rattle.judge.specs.Answer.{accepted}
 use Rattle.judge.specs.Judge.{badFraction}
-use Rattle.times.specs.Times.{timeAt}
+use Rattle.times.specs.Times.{timeAt, placeAt}
 use Rattle.times.specs.declared.time.ClockId.{ClockId}
 use Rattle.times.specs.declared.time.ClockTime.{ClockTime}
 use Rattle.times.specs.declared.start_time.StartTime.the-variants.{At}
@@ -24,7 +24,7 @@ use Rattle.station.specs.declared.Station.{Station}
 use Rattle.laws.specs.Calls.{Call, clock, modulator, frame, after}
 use Rattle.laws.specs.SoundStation.{All}
 use Rattle.demands.specs.Kinds.{Kind, running, floatKind, speedKind, courseOf, courseBySum, progressOf, progressBySums}
-use Rattle.demands.specs.Events.{Event, call, update, afterEvents, clockIn, scaled, placeAt, advancesOf, total, sumsFrom, inOrder, dtsOf, testsOf, firstPass, firstReach}
+use Rattle.demands.specs.Events.{Event, call, update, afterEvents, clockIn, advancesOf, total, sumsFrom, inOrder, dtsOf, testsOf, firstPass, firstReach}
 
 -- ---- what is asked
 

@@ -2,3 +2,4 @@ pub mod Durations
 pub mod Times
 pub mod Starts
 pub mod Easings
+pub mod Subtractions

@@ -1,10 +1,11 @@
 -- Document 01, "clock/time.rs": a time is its clock, whole ticks and a fraction: RULES, clock-time. How it is made,
--- moved and compared. Nothing here calls itself. Assumes nothing.
-use Prim.Native.Nat.{ℕ, _+_, _-_, compare, Ordering, Ordering·lt, Ordering·eq, Ordering·gt}
-use mathlib.Core.Bool.{Bool, false, _&&_, cond}
+-- moved and compared; a double is subtracted by the rule of document 02, Req 01. Nothing here calls itself. Assumes
+-- nothing.
+use Prim.Native.Nat.{ℕ, _+_, _-_, _*_, _^_, compare, Ordering, Ordering·lt, Ordering·eq, Ordering·gt}
+use mathlib.Core.Bool.{Bool, true, false, _&&_, cond}
 use lib.Dec.{ltb, eqb}
-use lib.Ieee.{Float, binary64, add, sub, neg, rem, lt, eq, toUnsigned}
-use Rattle.doubles.specs.Doubles.{signOf, wholeOf, fractOf, ceilOf, zeroF, oneF}
+use lib.Ieee.{Float, binary64, add, sub, neg, lt, eq, toUnsigned}
+use Rattle.doubles.specs.Doubles.{signOf, wholeOf, fractOf, zeroF, oneF, scaled}
 use Rattle.ticks.specs.WholeTicks.{moreOf}
 use Rattle.judge.specs.Answer.{Answer, accepted, refused, isRefused}
 use Rattle.judge.specs.Judge.{ofShift, bothFaults, floatFaults, fractionFaults, timeFaults, answered, judged}
@@ -29,6 +30,14 @@ toldOrder (compared.Refused n) = refused n
 -- a time of a clock; every one is made so: RULES, clock-time
 abbrev pub timeAt : ClockId → ℕ → Float → ClockTime
 timeAt c n f = record { clock = c; ticks = n; fraction = f }
+
+-- ticks and fraction as one whole number, in units of 2^-1074, with nothing rounded: RULES, exact-size
+abbrev pub placeAt : ℕ → Float → ℕ
+placeAt n f = n * 2 ^ 1074 + scaled f
+
+-- a time as an exact number
+abbrev pub exactOf : ClockTime → ℕ
+exactOf t = placeAt (t .ticks) (t .fraction)
 
 -- what is wrong with a time, wherever one is given: RULES, bad-time
 abbrev pub clockTimeFaults : ClockTime → Faults
@@ -68,15 +77,27 @@ laterOf t x =
     answered (ofShift (shiftFaults t x) (tooMany (t .ticks) (ticksMore t x)) false)
     (timeAt (t .clock) (t .ticks + ticksMore t x) (fractOf (add binary64 (t .fraction) x)))
 
--- the amount leaves the fraction, which is brought back into 0..1; the ticks lose what is more than the fraction,
--- rounded up, and stop at 0, as a difference of ℕ does: RULES, subtract-double
+-- BEFORE_ZERO: the time is smaller than the amount, both as exact numbers: RULES, before-zero
+abbrev pub tooLittle : ClockTime → Float → Bool
+tooLittle t x = ltb (exactOf t) (scaled x)
+
+-- n ticks and a fraction of d. A negative d borrows a tick, and gives it back where with it d rounds to a whole one:
+-- RULES, subtract-double
+abbrev pub borrowing : ClockId → ℕ → Float → ClockTime
+borrowing c n d =
+    let e = add binary64 d oneF in
+    cond (lt d zeroF) (cond (eq e oneF) (timeAt c n zeroF) (timeAt c (n - 1) e)) (timeAt c n d)
+
+-- the amount is w whole ticks and r; w leaves the ticks, and r leaves the fraction: RULES, subtract-double
 abbrev pub subtracted : ClockTime → Float → ClockTime
 subtracted t x =
-    timeAt (t .clock) (t .ticks - toUnsigned 64 (ceilOf (sub binary64 x (t .fraction))))
-    (rem binary64 (add binary64 (fractOf (sub binary64 (t .fraction) x)) oneF) oneF)
+    let w = toUnsigned 64 (wholeOf x) in
+    let r = fractOf x in
+    let d = sub binary64 (t .fraction) r in
+    borrowing (t .clock) (t .ticks - w) d
 
 unfoldable pub earlierOf : ClockTime → Float → Answer ClockTime
-earlierOf t x = answered (ofShift (shiftFaults t x) false false) (subtracted t x)
+earlierOf t x = answered (ofShift (shiftFaults t x) false (tooLittle t x)) (subtracted t x)
 
 -- an amount with a minus sign goes the other way by its opposite, -0.0 too: RULES, opposite
 unfoldable pub tryAddFloatOf : ClockTime → Float → Answer ClockTime
@@ -101,6 +122,13 @@ orderOf a b =
     cond (eqb (a .clock .slot) (b .clock .slot) && eqb (a .clock .generation) (b .clock .generation))
     (orderTicks (compare (a .ticks) (b .ticks)) (a .fraction) (b .fraction))
     Unordered
+
+-- whether the first of two times is the earlier one: RULES, time-order
+abbrev pub isLess : Order → Bool
+isLess Less = true
+isLess Equal = false
+isLess Greater = false
+isLess Unordered = false
 
 unfoldable pub tryOrderOf : ClockTime → ClockTime → Answer Order
 tryOrderOf a b = judged (bothFaults (clockTimeFaults a) (clockTimeFaults b)) (accepted (orderOf a b))

@@ -1,6 +1,10 @@
-// Clock times, as clock/time.rs has them.
+// Clock times, as clock/time.rs has them, but for a double that is subtracted: document 02, Req 01.
 ghost use mathlib.Core.Path.{_≡_};
-ghost use Rattle.times.specs.Times.{timeAt, clockTimeFaults, toldTime, subtracted, fromTicksOf, tryFromFloatOf, tryAddTicksOf, trySubTicksOf, laterOf, earlierOf, tryAddFloatOf, trySubFloatOf, orderFractions, orderOf, tryOrderOf, toldOrder};
+ghost use mathlib.Core.Bool.{true, false};
+ghost use Prim.Native.Nat.{_<_};
+ghost use lib.Ieee.{lt};
+ghost use Rattle.doubles.specs.Doubles.{zeroF, signOf};
+ghost use Rattle.times.specs.Times.{timeAt, clockTimeFaults, toldTime, borrowing, fromTicksOf, tryFromFloatOf, tryAddTicksOf, trySubTicksOf, laterOf, earlierOf, tryAddFloatOf, trySubFloatOf, orderFractions, orderOf, isLess, tryOrderOf, toldOrder};
 use judge::BEFORE_ZERO;
 use judge::Faults;
 use judge::TICKS_FULL;
@@ -123,28 +127,50 @@ fn later(t: ClockTime, x: f64) -> Timed
     Timed::At(time_at(clock, ticks, doubles::fract(s)))
 }
 
-// A time less an amount with no minus sign, with no ticks below 0.
-fn less(t: ClockTime, x: f64) -> ClockTime
-    ensures { λ r. ⌜ r ≡ subtracted t x ⌝ }
+// Whether t comes before u.
+fn is_less(t: ClockTime, u: ClockTime) -> bool
+    ensures { λ r. ⌜ r ≡ isLess (orderOf t u) ⌝ }
 {
-    let clock = t.clock;
-    let fraction = (doubles::fract(t.fraction - x) + 1.0) % 1.0;
-    let n = doubles::to_u64(doubles::ceil(x - t.fraction));
-    if n > t.ticks {
-        return time_at(clock, 0, fraction);
+    match partial_cmp(t, u) {
+        Order::Less => true,
+        Order::Equal => false,
+        Order::Greater => false,
+        Order::Unordered => false,
     }
-    time_at(clock, t.ticks - n, fraction)
+}
+
+// A time of so many ticks, and a fraction that may be negative: then it borrows a tick. A fraction so little
+// below 0 that with the tick it rounds to a whole one gives the tick back.
+fn borrowing(clock: ClockId, ticks: u64, d: f64) -> ClockTime
+    requires { ⌜ (lt d zeroF ≡ true → 0 < ticks) ⌝ }
+    ensures { λ r. ⌜ r ≡ borrowing clock ticks d ⌝ }
+{
+    if d < 0.0 {
+        let e = d + 1.0;
+        if e == 1.0 {
+            return time_at(clock, ticks, 0.0);
+        }
+        return time_at(clock, ticks - 1, e);
+    }
+    time_at(clock, ticks, d)
 }
 
 // t earlier by an amount with no minus sign.
 fn earlier(t: ClockTime, x: f64) -> Timed
+    requires { ⌜ signOf x ≡ false ⌝ }
     ensures { λ r. ⌜ toldTime r ≡ earlierOf t x ⌝ }
 {
     let fault = first_fault(both(float_faults(x), clock_time_faults(t)));
     if fault != 0 {
         return Timed::Refused(fault);
     }
-    Timed::At(less(t, x))
+    let clock = t.clock;
+    let w = doubles::to_u64(doubles::whole(x));
+    let r = doubles::fract(x);
+    if is_less(t, time_at(clock, w, r)) {
+        return Timed::Refused(BEFORE_ZERO);
+    }
+    Timed::At(borrowing(clock, t.ticks - w, t.fraction - r))
 }
 
 // t later by x ticks: for a negative x, earlier by its opposite.

@@ -1,4 +1,4 @@
-//! Document 01's refusals: what holds of each kind of argument, and in which order it is answered.
+//! The customer's refusals: what holds of each kind of argument, and in which order it is answered.
 //! Nothing here calls the original: these rules are added to it.
 
 use std::{ops::BitOr, time::Duration};
@@ -6,6 +6,8 @@ use std::{ops::BitOr, time::Duration};
 use crate::{
     Easing, StartTime, Tween, Value, clock::ClockSpeed, modulator::lfo::Waveform, value::Mapping,
 };
+
+use super::less;
 
 /// The refusals that hold of a call, as a set of their numbers.
 #[derive(Debug, Clone, Copy, PartialEq)]
@@ -194,7 +196,7 @@ pub(super) fn advance(held: u64, fraction: f64, advance: f64) -> Faults {
     too_far | added_ticks(held, (fraction + advance).trunc() as u64)
 }
 
-/// Ticks that are added as a double; the ones below 0 are subtracted and never pass the end.
+/// Ticks that are added as a double; where it has a minus sign they are subtracted, and never pass the end.
 pub(super) fn added_amount(held: u64, fraction: f64, amount: f64) -> Faults {
     if amount.is_sign_negative() {
         return Faults::NONE;
@@ -218,6 +220,15 @@ pub(super) fn buffer(length: usize) -> Faults {
 /// Whole ticks that are subtracted from those held.
 pub(super) fn subtracted_ticks(held: u64, subtracted: u64) -> Faults {
     Faults::when(subtracted > held, BEFORE_ZERO)
+}
+
+/// Ticks that are subtracted as a double; where it has a minus sign they are added, and never pass zero.
+pub(super) fn subtracted_amount(held: u64, fraction: f64, amount: f64) -> Faults {
+    let subtracted = amount.is_sign_positive();
+    Faults::when(
+        subtracted && less::is_smaller(held, fraction, amount),
+        BEFORE_ZERO,
+    )
 }
 
 #[cfg(test)]
@@ -303,5 +314,11 @@ mod tests {
         assert_eq!(added_amount(u64::MAX, 0.5, -9.0).first(), None);
         assert_eq!(subtracted_ticks(3, 3).first(), None);
         assert_eq!(subtracted_ticks(3, 4).first(), Some(BEFORE_ZERO));
+        assert_eq!(subtracted_amount(3, 0.5, 3.5).first(), None);
+        assert_eq!(
+            subtracted_amount(3, 0.5, above(3.5)).first(),
+            Some(BEFORE_ZERO)
+        );
+        assert_eq!(subtracted_amount(3, 0.5, -9.0).first(), None);
     }
 }

@@ -1,4 +1,4 @@
-//! Document 01's worked rows and the line rules, through the whole of the bench.
+//! The customer's worked rows and the line rules, through the whole of the bench.
 
 use super::{answer, station::Station};
 
@@ -49,15 +49,15 @@ fn times_are_as_in_the_worked_rows() {
         ),
         (
             "time.subf 0 3fd0000000000000 3fe0000000000000",
-            "0 3fe8000000000000",
+            "refused 12",
         ),
         (
             "time.subf 5 0000000000000000 3c30000000000000",
-            "4 0000000000000000",
+            "5 0000000000000000",
         ),
         (
             "time.addf 1 3c30000000000000 8000000000000000",
-            "1 0000000000000000",
+            "1 3c30000000000000",
         ),
     ];
     for (call, expected) in rows {

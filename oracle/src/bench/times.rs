@@ -6,7 +6,7 @@ use atomic_arena::Key;
 
 use crate::clock::{ClockId, ClockTime};
 
-use super::{give, judge, show, words::Words};
+use super::{give, judge, less, show, words::Words};
 
 /// Most of these calls name no clock; the answer does not show this one.
 const SOME_CLOCK: ClockId = ClockId(Key::new(0, 1));
@@ -50,19 +50,29 @@ fn from_float(mut words: Words) -> Option<String> {
 fn add_float(mut words: Words) -> Option<String> {
     let (from, amount) = (time(&mut words)?, words.float()?);
     words.end()?;
-    let faults = judge::float(amount)
-        | judge::fraction(from.fraction)
-        | judge::added_amount(from.ticks, from.fraction, amount);
-    give(faults, || show::time(from + amount))
+    moved(from, amount, || from + amount)
 }
 
 fn subtract_float(mut words: Words) -> Option<String> {
     let (from, amount) = (time(&mut words)?, words.float()?);
     words.end()?;
-    let faults = judge::float(amount)
+    moved(from, -amount, || from - amount)
+}
+
+/// A time that is later by an amount, or earlier by its opposite where it has a minus sign.
+fn moved(from: ClockTime, by: f64, original: impl FnOnce() -> ClockTime) -> Option<String> {
+    let faults = judge::float(by)
         | judge::fraction(from.fraction)
-        | judge::added_amount(from.ticks, from.fraction, -amount);
-    give(faults, || show::time(from - amount))
+        | judge::added_amount(from.ticks, from.fraction, by)
+        | judge::subtracted_amount(from.ticks, from.fraction, -by);
+    give(faults, || {
+        let original = original();
+        show::time(if by.is_sign_negative() {
+            less::left(from, -by, original)
+        } else {
+            original
+        })
+    })
 }
 
 fn add_whole(mut words: Words) -> Option<String> {

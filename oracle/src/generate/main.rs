@@ -6,6 +6,7 @@ mod doubles;
 mod floats;
 mod grammar;
 mod leaves;
+mod less;
 mod limits;
 mod nanos;
 mod powers;
@@ -23,7 +24,7 @@ use std::{
 use random::Random;
 
 const USAGE: &str = "usage: generate FAMILY SEED COUNT [--powers MOST] [--random]
-FAMILY is floats, times, nanos, powers, station or shift. Powers that are accepted go to MOST, 1 to 16, or to 16.
+FAMILY is floats, times, less, nanos, powers, station or shift. Powers that are accepted go to MOST, 1 to 16, or to 16.
 COUNT is of all lines, or with --random of those behind the damaged lines and the limits.";
 
 /// One in this many lines is damaged, about 3 in 100.
@@ -71,6 +72,7 @@ fn read_arguments(words: &[String]) -> Option<(Family, u64, u64)> {
     let family = match family.as_str() {
         "floats" => floats::family(),
         "times" => times::family(powers),
+        "less" => less::family(),
         "nanos" => nanos::family(),
         "powers" => powers::family(),
         "station" => station::family(powers),

@@ -43,7 +43,7 @@ const FORMS: [&str; 37] = [
     "start.up del 86400000000000 DT",
 ];
 
-/// Document 01's worked rows, and cases where several limits meet.
+/// The customer's worked rows, and cases where several limits meet.
 const ROWS: [&str; 28] = [
     "time.fromf 400c000000000000",
     "time.addf 2 3fe0000000000000 3ffc000000000000",

@@ -6,6 +6,7 @@ use mathlib.Core.Bool.{Bool, true, false, _||_, cond, false≢true}
 use mathlib.Core.List.{List, [], _∷_, _++_}
 use lib.Dec.{leb}
 use lib.Ieee.{Float}
+use Rattle.times.specs.Times.{placeAt}
 use Rattle.times.specs.declared.time.ClockId.{ClockId}
 use Rattle.times.specs.declared.start_time.When.{When}
 use Rattle.times.specs.declared.start_time.When.the-variants.{Now, Later}
@@ -15,10 +16,11 @@ use Rattle.station.specs.Stations.{infoIn}
 use Rattle.station.specs.declared.Station.{Station}
 use Rattle.laws.specs.Calls.{after}
 use Rattle.laws.specs.SoundStation.{All}
-use Rattle.demands.specs.Events.{Event, call, update, moves, placeAt, advanceIn, advancesOf, total, sumsFrom, inOrder, dtsOf}
+use Rattle.times.proofs.time.Places.{Fraction}
+use Rattle.demands.specs.Events.{Event, call, update, moves, advanceIn, advancesOf, total, sumsFrom, inOrder, dtsOf}
 use Rattle.demands.specs.Kinds.{Progress, Kind, courseOf, courseBySum, progressOf, passed, progressBySums}
 use Rattle.demands.specs.Served.{Kept, Grid, awaited}
-use Rattle.demands.proofs.lemmas.Due.{Fraction, due}
+use Rattle.demands.proofs.lemmas.Due.{due}
 use Rattle.demands.proofs.lemmas.Going.{Going, call-goes}
 use Rattle.demands.proofs.lemmas.Runs.{grids, owing, sums-call, order-call, order-update}
 use Rattle.demands.proofs.lemmas.Timing.{Shape, Waiting, sees-time, passes, keeps}

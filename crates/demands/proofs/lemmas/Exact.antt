@@ -1,58 +1,29 @@
--- Doubles as whole numbers. In units of 2^-1074 every finite double is one. In units of 2^-32 those of the grid are,
--- and there a sum is exact, and so are the whole ticks taken off it. RULES, exact-sum and grid. Assumes nothing.
+-- Doubles of the grid as whole numbers, in units of 2^-32: there a sum is exact, and so are the whole ticks taken off
+-- it. RULES, exact-sum and grid. Assumes nothing.
 use Prim.Native.Nat.{ℕ, _+_, _-_, _*_, _/_, _%_, _^_, _≤_, _<_, min}
-use native.Mathlib.Nat.{le-trans, le-of-eq, lt-of-lt-of-le, lt-of-le-of-lt, mul-lt-mul-of-pos-right, lt-of-mul-lt-mul-right, add-zero, add-mul, mul-assoc, mul-comm, mul-right-comm, mul-pos, mul-div-cancel, eq-of-mul-eq-mul-right, le-of-mul-le-mul-right, div-add-mod'}
+use native.Mathlib.Nat.{le-trans, le-of-eq, lt-of-lt-of-le, add-zero, add-mul, mul-assoc, mul-comm, mul-right-comm, mul-pos, le-of-mul-le-mul-right, div-add-mod'}
 use native.Mathlib.Omega.{arith}
 use mathlib.Core.Path.{_≡_, refl, sym, ap, _∙_, subst}
 use mathlib.Core.Logic.{inl, inr}
-use mathlib.Core.Bool.{Bool, true, false, cond, true≢false, false≢true}
+use mathlib.Core.Bool.{Bool, true, false, false≢true}
 use lib.Dec.{T, ltb, lit≤}
 use lib.Pow.{pow-pos, shl-lt}
-use lib.Ieee.{Float, nan, inf, fin, binary64, up, down, round, add, lt, fits}
+use lib.Ieee.{Float, nan, inf, fin, binary64, up, down, round, add, fits}
 use lib.Ieee.Exact.{HasValue, round-exact}
-use lib.Ieee.Fits.{up-pos, down-pos, sub-fits}
+use lib.Ieee.Fits.{up-pos, sub-fits}
 use lib.Ieee.Positive.{num, den, den-pos}
 use lib.Ieee.Scale.{finite}
-use borrow.Author.Tests.{lt-ltb, ltb-false}
-use Rattle.doubles.specs.Doubles.{signOf, finiteOf, wholeOf, fractOf}
-use Rattle.doubles.proofs.Quotients.{units-of}
+use borrow.Author.Tests.{ltb-false}
+use Rattle.doubles.specs.Doubles.{signOf, finiteOf, wholeOf, fractOf, scaled}
+use Rattle.doubles.proofs.Scaled.{rescale, value-finite, scaled-is, scaled-value}
 use Rattle.doubles.proofs.Unit.{none, no-times, On, add-rounds}
 use Rattle.ticks.specs.WholeTicks.{roomFor, takenOf}
 use Rattle.ticks.specs.declared.Position.{Position}
 use Rattle.judge.specs.Answer.{accepted}
 use Rattle.ticks.proofs.Parts.{ticksOf, ticks-value, fract-value}
 use Rattle.ticks.proofs.Sums.{room, taken-room}
-use Rattle.judge.specs.Judge.{badFraction}
-use Rattle.laws.proofs.lemmas.Clear.{fraction-of, add-clear}
-use Rattle.demands.specs.Events.{scaled}
+use Rattle.laws.proofs.lemmas.Clear.{add-clear}
 use Rattle.demands.specs.Served.{Grid}
-
--- from one fraction to another of the same size
-rescale : (x : Float) (s : Bool) (w l a c : ℕ) → 0 < l → a * l ≡ w * c → HasValue x s w l → HasValue x s a c
-rescale nan s w l a c p h v = v
-rescale (inf t) s w l a c p h v = v
-rescale (fin t m e) s w l a c p h v = (
-  v .0,
-  eq-of-mul-eq-mul-right l p (m * up e * c) (a * down e)
-      (mul-right-comm (m * up e) c l ∙ ap (λ (z : ℕ). z * c) (v .1) ∙ mul-right-comm w (down e) c ∙ ap (λ (z : ℕ). z * down e) (sym h) ∙ mul-right-comm a l (down e)),
-)
-
--- ---- in units of 2^-1074
-
-pub scaled-is : (x : Float) (s : Bool) (n : ℕ) → HasValue x s n (2 ^ 1074) → scaled x ≡ n
-unfolding scaled
-scaled-is nan s n v = absurd v
-scaled-is (inf t) s n v = absurd v
-scaled-is (fin t m e) s n v = ap (λ (z : ℕ). z / down e) (v .1) ∙ mul-div-cancel n (down-pos e)
-
--- `scaled` loses nothing of a finite double
-pub scaled-value : (x : Float) → T (fits binary64 x) → T (finite x) → HasValue x (signOf x) (scaled x) (2 ^ 1074)
-unfolding scaled
-scaled-value nan F H = absurd H
-scaled-value (inf t) F H = absurd H
-scaled-value (fin s m e) F H =
-    let u = units-of binary64 (fin s m e) F H in
-    (refl, u .1 ∙ ap (λ (z : ℕ). z * down e) (sym (ap (λ (z : ℕ). z / down e) (u .1) ∙ mul-div-cancel (u .0) (down-pos e))))
 
 -- ---- in units of 2^-32
 
@@ -67,19 +38,6 @@ parts-value x s k v = subst (λ (z : ℕ). HasValue x s z (2 ^ 1074)) (sym (part
 
 scaled-parts : (x : Float) (s : Bool) (k : ℕ) → HasValue x s (k * 2 ^ 1042) (2 ^ 1074) → Parts x s k
 scaled-parts x s k v = rescale x s (k * 2 ^ 1042) (2 ^ 1074) k (2 ^ 32) (pow-pos 1074) (sym (mul-assoc k (2 ^ 1042) (2 ^ 32))) v
-
--- less than 2^32 parts are a fraction that is not refused
-pub parts-fraction : (x : Float) (k : ℕ) → Parts x false k → k < 2 ^ 32 → badFraction x ≡ false
-unfolding lt
-parts-fraction nan k v l = absurd v
-parts-fraction (inf t) k v l = absurd v
-parts-fraction (fin true m e) k v l = absurd (true≢false (v .0))
-parts-fraction (fin false m e) k v l =
-    let h : m * up e < down e = lt-of-mul-lt-mul-right (2 ^ 32) (lt-of-le-of-lt (le-of-eq (v .1)) (lt-of-lt-of-le (mul-lt-mul-of-pos-right l (down-pos e)) (le-of-eq (mul-comm (2 ^ 32) (down e))))) in
-    fraction-of (fin false m e) refl (lt-ltb (m * up e * 1) (1 * down e) (plain (m * up e) (down e) h))
-  where
-    plain : (M D : ℕ) → M < D → M * 1 < 1 * D
-    plain M D h = omega arith
 
 -- ---- an advance
 
@@ -125,11 +83,6 @@ cross : (x : Float) (s : Bool) (k c : ℕ) → HasValue x s k c → num x * c �
 cross nan s k c v = absurd v
 cross (inf t) s k c v = absurd v
 cross (fin t m e) s k c v = v .1
-
-value-finite : (x : Float) (s : Bool) (k c : ℕ) → HasValue x s k c → T (finite x) × (signOf x ≡ s)
-value-finite nan s k c v = absurd v
-value-finite (inf t) s k c v = absurd v
-value-finite (fin t m e) s k c v = (tt, v .0)
 
 -- two fractions over one denominator
 joined : (x y d e a b l : ℕ) → x * l ≡ a * d → y * l ≡ b * e → (x * e + y * d) * l ≡ (a + b) * (d * e)

@@ -11,7 +11,7 @@ use lib.Dec.{lit<}
 use lib.Ieee.{Float}
 use lib.Ieee.Fits.{mul-fits}
 use borrow.Author.Tests.{eq-eqb, ne-eqb}
-use Rattle.doubles.specs.Doubles.{zeroF}
+use Rattle.doubles.specs.Doubles.{zeroF, scaled}
 use Rattle.values.specs.Speeds.{tpsOf}
 use Rattle.times.specs.declared.time.ClockId.{ClockId}
 use Rattle.clock.specs.OneClock.{positionOf, advanceOf}
@@ -27,7 +27,7 @@ use Rattle.laws.specs.SoundStation.{All}
 use Rattle.laws.proofs.lemmas.Entries.{Names, names-of, names-read}
 use Rattle.laws.proofs.lemmas.OneClock.{Makes, leaves, starts, stops, resets, speeds, Made, command-makes}
 use Rattle.laws.proofs.lemmas.OneTurn.{frame-turns, frame-refused}
-use Rattle.demands.specs.Events.{scaled, advanceIn, total}
+use Rattle.demands.specs.Events.{advanceIn, total}
 use Rattle.demands.specs.Served.{Fresh, started, sameId, haltsBy, halts, Grid}
 use Rattle.demands.proofs.lemmas.Exact.{on-grid}
 use Rattle.demands.proofs.lemmas.Standing.{Standing, moved, Ticks, ticks}

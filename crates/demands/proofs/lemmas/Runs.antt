@@ -8,7 +8,9 @@ use mathlib.Core.Bool.{Bool, true, false, not, _&&_, _||_, cond, true≢false, f
 use mathlib.Core.List.{List, [], _∷_, _++_, map}
 use lib.Dec.{eqb, leb}
 use lib.Ieee.{Float}
+use Rattle.doubles.specs.Doubles.{scaled}
 use Rattle.judge.specs.Judge.{badDt}
+use Rattle.times.specs.Times.{placeAt}
 use Rattle.times.specs.declared.time.ClockId.{ClockId}
 use Rattle.times.specs.declared.start_time.When.the-variants.{Now, Later}
 use Rattle.parameter.specs.Courses.{isNow}
@@ -19,9 +21,10 @@ use Rattle.laws.specs.Calls.{Call, clock, modulator, frame, after}
 use Rattle.laws.specs.SoundStation.{All}
 use Rattle.laws.proofs.lemmas.Entries.{names-read}
 use borrow.Author.Tests.{not-true}
-use Rattle.demands.specs.Events.{Event, call, update, afterEvents, clockIn, moves, scaled, placeAt, advanceBy, advanceIn, advancesOf, total, sumsFrom, inOrder, testsOf, firstPass, firstReach, later, Place, at}
+use Rattle.times.proofs.time.Places.{Fraction}
+use Rattle.demands.specs.Events.{Event, call, update, afterEvents, clockIn, moves, advanceBy, advanceIn, advancesOf, total, sumsFrom, inOrder, testsOf, firstPass, firstReach, later, Place, at}
 use Rattle.demands.specs.Served.{Kept, Grid, awaited}
-use Rattle.demands.proofs.lemmas.Due.{Fraction, due}
+use Rattle.demands.proofs.lemmas.Due.{due}
 use Rattle.demands.proofs.lemmas.Going.{Going, call-goes}
 
 -- ---- lists

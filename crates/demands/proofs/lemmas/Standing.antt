@@ -8,9 +8,10 @@ use mathlib.Core.Bool.{Bool, true, false, _||_, cond}
 use lib.IntN.{pos}
 use lib.Ieee.{Float, fin, binary64, add, lt, le}
 use lib.Ieee.Fits.{add-fits}
-use Rattle.doubles.specs.Doubles.{oneF}
+use Rattle.doubles.specs.Doubles.{oneF, scaled}
 use Rattle.ticks.specs.WholeTicks.{takenOf}
 use Rattle.ticks.specs.declared.Position.{Position}
+use Rattle.times.specs.Times.{placeAt}
 use Rattle.judge.specs.Answer.{Answer, accepted, refused}
 use Rattle.judge.specs.Judge.{numberOf}
 use Rattle.parameter.specs.SpeedParameters.{updateOf}
@@ -22,7 +23,6 @@ use Rattle.clock.specs.declared.ClockState.the-variants.{Started}
 use Rattle.clock.specs.declared.Ticked.{Ticked}
 use Rattle.station.specs.Turns.{turnClock}
 use Rattle.laws.proofs.lemmas.OneTurn.{Turned}
-use Rattle.demands.specs.Events.{scaled, placeAt}
 use Rattle.demands.proofs.lemmas.Exact.{Parts, parts-scaled, OnGrid, add-parts, took}
 
 -- ---- a time on the grid

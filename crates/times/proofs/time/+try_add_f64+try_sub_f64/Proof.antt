@@ -54,5 +54,5 @@ pub +try-add-f64+try-sub-f64-spec : {M : Type 1} → statement M
     (λ c κs. search needs)
     (λ c κs. (subst (λ (j : ℕ). steps (neg (c .before .before .args .x)) < j) (c .before .before .pre .0) (steps-fall (c .before .before .args .x) (sym (c .before .sign-bit .ensures) ∙ c .if1 .taken)), tt))
     (λ c. c .try-add-f64 .ensures ∙ sub-opposite (c .before .before .before .args .t) (c .before .before .before .args .x) (sym (c .before .before .sign-bit .ensures) ∙ c .before .if1 .taken))
-    (λ c κs. search needs)
+    (λ c κs. sym (c .before .sign-bit .ensures) ∙ c .if1 .left)
     (λ c. c .earlier .ensures ∙ sub-plain (c .before .before .before .args .t) (c .before .before .before .args .x) (sym (c .before .before .sign-bit .ensures) ∙ c .before .if1 .left)))
