@@ -25,12 +25,29 @@ use judge::Faults;
 use station::Station;
 use words::Words;
 
+/// A station and the calls on it.
+pub(crate) struct Bench {
+    station: Station,
+}
+
+impl Bench {
+    pub(crate) fn new() -> Self {
+        let station = Station::new();
+        Self { station }
+    }
+
+    /// The answer to one line, or nothing where the line is skipped.
+    pub(crate) fn answer(&mut self, line: &[u8]) -> Option<String> {
+        answer(line, &mut self.station)
+    }
+}
+
 /// Answers standard input until its end. With the argument `--counts`, what was counted on the way comes on standard
 /// error.
 pub(crate) fn run() -> ExitCode {
-    let mut station = Station::new();
+    let mut bench = Bench::new();
     let served = lines::serve(io::stdin().lock(), io::stdout().lock(), |line| {
-        answer(line, &mut station)
+        bench.answer(line)
     });
     if let Err(error) = served {
         eprintln!("{error}");

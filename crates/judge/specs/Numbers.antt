@@ -37,3 +37,11 @@ abbrev pub «BUFFER» : ℕ
 
 abbrev pub «BEFORE_ZERO» : ℕ
 «BEFORE_ZERO» = 12
+
+-- ---- of a recording, and not of a call: 02, the replay of a shift
+
+abbrev pub «TRACE» : ℕ
+«TRACE» = 13
+
+abbrev pub «WRONG_ID» : ℕ
+«WRONG_ID» = 14

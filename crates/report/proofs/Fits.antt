@@ -1,10 +1,9 @@
 -- The report of a clock that lives, in the buffer: one under 96 bytes is refused, and in any other the lines stand
 -- whole at the start, and every later byte is as before. RULES, report-buffer. Assumes nothing.
-use Prim.Native.Nat.{ℕ, _^_, _<_, _≤_}
+use Prim.Native.Nat.{ℕ, _<_, _≤_}
 use native.Mathlib.Nat.{zero-add}
 use native.Mathlib.Omega.{arith}
 use mathlib.Core.Path.{_≡_, sym, ap, _∙_}
-use mathlib.Core.Bool.{not}
 use mathlib.Core.List.{List, _++_}
 use lib.ListN.{length, drop}
 use lib.Seq.{take-length}
@@ -16,32 +15,29 @@ use Rattle.judge.specs.Answer.{accepted}
 use Rattle.judge.specs.Judge.{numberOf}
 use Rattle.judge.specs.Numbers.{«BUFFER»}
 use Rattle.times.specs.declared.time.ClockId.{ClockId}
-use Rattle.clock.specs.OneClock.{positionOf, freshOf}
 use Rattle.clock.specs.declared.Clock.{Clock}
-use Rattle.report.specs.Reports.{reportLines, reportText, reported, intoBuffer}
+use Rattle.report.specs.Reports.{clockLines, reportText, reported, atStart, intoBuffer}
 use Rattle.report.specs.declared.Filled.the-variants.{Written, Refused}
-use Rattle.report.proofs.Longest.{longest}
 
 -- a text that fits, put at the start
-at-start : (texts : List (List ℕ)) (out : List ℕ) → length (whole texts) ≤ length out → putAll (place out 0) texts ≡ place (whole texts ++ drop (length (whole texts)) out) (length (whole texts))
-at-start texts out h =
-    whole-fits texts out 0 (omega arith)
-    ∙ sym (room out 0 (whole texts) (omega arith))
-    ∙ rw (zero-add (length (whole texts)), take-length (whole texts))
+module _ (texts : List (List ℕ)) (out : List ℕ) (fits : length (whole texts) ≤ length out) where
+  put-first : putAll (place out 0) texts ≡ place (whole texts ++ drop (length (whole texts)) out) (length (whole texts))
+  put-first =
+      whole-fits texts out 0 (omega arith)
+      ∙ sym (room out 0 (whole texts) (omega arith))
+      ∙ rw (zero-add (length (whole texts)), take-length (whole texts))
+
+  pub at-start : {o : List ℕ} {n : ℕ} → place o n ≡ putAll (place out 0) texts → reported (Written n) o ≡ atStart (whole texts) out
+  at-start e = ap (λ (p : Put). reported (Written (p .at)) (p .out)) (e ∙ put-first)
 
 module _ (id : ClockId) (c : Clock) (out : List ℕ) where
-  abbrev texts : List (List ℕ)
-  texts = reportLines id (c .ticking) (not (freshOf (c .state))) (positionOf (c .state))
-
   -- BUFFER
   pub too-small : length out < 96 → reported (Refused «BUFFER») out ≡ intoBuffer out (accepted (reportText id c))
   unfolding numberOf
   too-small h = rw (lt-ltb (length out) 96 h)
 
   pub written :
-      {o : List ℕ} {n : ℕ} → id .slot < 16 → 96 ≤ length out → id .generation < 2 ^ 32 → positionOf (c .state) .ticks < 2 ^ 64
-      → place o n ≡ putAll (place out 0) texts → reported (Written n) o ≡ intoBuffer out (accepted (reportText id c))
+      {o : List ℕ} {n : ℕ} → 96 ≤ length out → length (reportText id c) ≤ 96 → place o n ≡ putAll (place out 0) (clockLines id c)
+      → reported (Written n) o ≡ intoBuffer out (accepted (reportText id c))
   unfolding numberOf
-  written s h g k e =
-      ap (λ (p : Put). reported (Written (p .at)) (p .out)) (e ∙ at-start texts out (omega (arith, longest id c s g k)))
-      ∙ rw (le-ltb (length out) 96 h)
+  written h l e = at-start (clockLines id c) out (omega (arith, l)) e ∙ rw (le-ltb (length out) 96 h)

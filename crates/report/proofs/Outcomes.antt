@@ -11,6 +11,8 @@ use Rattle.report.specs.declared.Filled.{Filled}
 use Rattle.report.specs.declared.Filled.the-variants.{Written, Refused}
 use Rattle.report.proofs.report.Reads as report
 use Rattle.report.proofs.report.Kinds as report-kinds
+use Rattle.report.proofs.reports.Reads as reports
+use Rattle.report.proofs.reports.Kinds as reports-kinds
 
 -- two answers that tell the same are one
 same-told : (x y : Filled) → toldReport x ≡ toldReport y → x ≡ y
@@ -24,3 +26,6 @@ same x y p q = (same-told x y (ap (λ (v : Outcome). v .answer) (p ∙ sym q)), 
 
 pub one-report : Same 1 report-kinds.ps report-kinds.r report.Post (λ κs s. now (s .1 .1 .0))
 one-report κs a x y s t = same x y
+
+pub one-reports : Same 1 reports-kinds.ps reports-kinds.r reports.Post (λ κs s. now (s .1 .0))
+one-reports κs a x y s t = same x y

@@ -54,8 +54,11 @@ reportLines id ticking started p =
     ++ field fractionWord (floatText (p .fraction))
 
 -- of the clock with that id; one that is not started stands at tick 0 and fraction 0.0: RULES, unstarted-clock
+abbrev pub clockLines : ClockId → Clock → List (List ℕ)
+clockLines id c = reportLines id (c .ticking) (not (freshOf (c .state))) (positionOf (c .state))
+
 abbrev pub reportText : ClockId → Clock → List ℕ
-reportText id c = whole (reportLines id (c .ticking) (not (freshOf (c .state))) (positionOf (c .state)))
+reportText id c = whole (clockLines id c)
 
 -- ---- the answer, and the buffer at exit
 
