@@ -51,9 +51,7 @@ fn main() -> ExitCode {
         ["compare", seed, count, folder, command @ ..] if !command.is_empty() => {
             made(seed, count).map(|made| compare::run(&made, folder, command))
         }
-        ["make", seed, count, number] => made(seed, count)
-            .and_then(|made| made.get(number.parse().ok()?))
-            .map(|recording| print(&recording)),
+        ["make", seed, count, number] => made(seed, count).map(|made| print(&made, number)),
         _ => None,
     };
     match told {
@@ -73,7 +71,10 @@ fn made(seed: &str, count: &str) -> Option<Made> {
     Some(Made::new(seed.parse().ok()?, count.parse().ok()?))
 }
 
-fn print(recording: &[u8]) -> io::Result<ExitCode> {
-    io::stdout().write_all(recording)?;
+fn print(made: &Made, number: &str) -> io::Result<ExitCode> {
+    let Some(recording) = number.parse().ok().and_then(|number| made.get(number)) else {
+        return Err(io::Error::other(format!("there is no recording {number}")));
+    };
+    io::stdout().write_all(&recording)?;
     Ok(ExitCode::SUCCESS)
 }

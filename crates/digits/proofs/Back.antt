@@ -1,5 +1,5 @@
 -- Reading the digits back gives the number: a number's text names one number only. These laws stand for a reader of
--- reports and answers; no proof cites them. Assumes nothing.
+-- reports and answers; the law that a written recording is read back cites them. Assumes nothing.
 use Prim.Native.Nat.{ℕ, zero, suc, _+_, _-_, _*_, _/_, _%_, _^_, _<_, _≤_}
 use native.Mathlib.Nat.{pow-zero, pow-suc, mod-lt, mod-eq-of-lt, div-add-mod', div-le-self, div-lt-iff-lt-mul, le-div-iff-mul-le}
 use native.Mathlib.Decide.{decLt}

@@ -1,33 +1,40 @@
 -- What the theorem on a recorder asks for can be met: a run of the two motors 0041 and 41 is computed, with their
--- clocks 0:1 and 1:1. And each place and each number of a replay, at one small recording, in digits. RULES, recorder,
--- trace and wrong-id. Assumes nothing.
+-- clocks 0:1 and 1:1. And the places and the numbers of refused replays, each at one small recording, in digits. RULES,
+-- recorder, replay, trace and wrong-id. Assumes nothing.
 use Prim.Native.Nat.{ℕ}
 use native.Mathlib.Omega.{arith}
 use mathlib.Core.Path.{_≡_, refl}
-use mathlib.Core.List.{List, [], _∷_, _++_, map}
-use lib.Ieee.{ofBits, add, sub, mul, lt, le, eq, toUnsigned}
+use mathlib.Core.List.{List, [], _∷_, _++_}
+use lib.Ieee.{ofBits, binary64, add, sub, mul, lt, le, eq, toUnsigned}
 use lib.ListN.{replicate}
 use Rattle.doubles.specs.Doubles.{zeroF}
 use Rattle.ids.specs.Keys.{freeOf, livesIn, findOf}
 use Rattle.ids.specs.Lists.{readAt}
 use Rattle.ticks.specs.WholeTicks.{roomFor, takenOf}
+use Rattle.judge.specs.Answer.{accepted}
 use Rattle.judge.specs.Judge.{numberOf, firstFault}
+use Rattle.times.specs.declared.time.ClockId.{ClockId}
+use Rattle.values.specs.declared.clock_speed.ClockSpeed.the-variants.{TicksPerSecond}
+use Rattle.values.specs.declared.value.SpeedValue.the-variants.{Fixed}
 use Rattle.parameter.specs.SpeedParameters as speeds
 use Rattle.clock.specs.OneClock.{tickOf, updateClockOf}
-use Rattle.clock_table.specs.ClockTables.{addClockOf, tickOnOf}
+use Rattle.clock_table.specs.ClockTables.{addClockOf, tickOnOf, clockTimeOf}
 use Rattle.commands.specs.ClockCommands.{runClockOf}
+use Rattle.commands.specs.declared.clock_command.ClockCommand.the-variants as command
 use Rattle.station.specs.Frames.{modulatorTurns, modulatorsTurned, clockTurns, clocksTurned, frameOf}
 use Rattle.station.specs.Stations.{freshStation, infoIn}
 use Rattle.station.specs.Turns.{turnClock}
 use Rattle.record.specs.declared.Op.the-variants as op
 use Rattle.record.specs.declared.Record.{Record}
 use Rattle.run.specs.Runs.{afterAll}
+use Rattle.run.specs.declared.Call.{Call}
+use Rattle.run.specs.declared.Call.the-variants as call
 use Rattle.record.specs.Fields.{sameBytes, begins, decimalBehind, hexBehind}
-use Rattle.record.specs.Records.{«op=add», «slot=», «gen=», «arg=», opOf, judgeOf}
+use Rattle.record.specs.Records.{«op=add», «op=stop», «slot=», «gen=», «arg=», opOf, judgeOf}
 use Rattle.recording.specs.Recordings.{linesFrom, tapeOf}
 use Rattle.recording.specs.Writings.{Writable, All, ended, writtenOf}
 use Rattle.text.specs.Numbers.{decimalOf, hex16Of, numberFrom}
-use Rattle.play.specs.Asked.{callOf, numberOn, takenOn}
+use Rattle.play.specs.Asked.{numberOn, takenOn}
 use Rattle.play.specs.Replays.{endOf, replayOf}
 use Rattle.play.specs.OneByOne.{Noted}
 use Rattle.play.specs.declared.Verdict.{Verdict}
@@ -48,12 +55,33 @@ shift =
 pub writable : All Writable shift
 writable = omega arith
 
-pub noted : Noted freshStation (map callOf shift) shift
+abbrev id : ℕ → ℕ → ClockId
+id s g = record { slot = s; generation = g }
+
+-- the same run as calls, with no record in them
+abbrev pub calls : List Call
+calls =
+    call.Clock (command.Add (Fixed (TicksPerSecond (ofBits binary64 0x4000000000000000))))
+    ∷ call.Clock (command.Add (Fixed (TicksPerSecond (ofBits binary64 0x4010000000000000))))
+    ∷ call.Clock (command.Start (id 0 1))
+    ∷ call.Clock (command.Start (id 1 1))
+    ∷ call.Frame (ofBits binary64 0x3fe0000000000000)
+    ∷ []
+
+pub noted : Noted freshStation calls shift
 unfolding Noted ofBits numberOf firstFault add sub mul lt le eq toUnsigned freeOf livesIn findOf readAt roomFor takenOf tickOf updateClockOf addClockOf tickOnOf runClockOf speeds.updateOf infoIn turnClock modulatorTurns modulatorsTurned clockTurns clocksTurned frameOf
 noted = (refl, refl, (refl, refl, (refl, refl, (refl, refl, (refl, refl, tt)))))
 
-pub replayed : replayOf (writtenOf shift) ≡ record { station = afterAll freshStation (map callOf shift); verdict = verdict.Accepted }
-replayed = recorded-run (map callOf shift) shift writable noted
+pub replayed : replayOf (writtenOf shift) ≡ record { station = afterAll freshStation calls; verdict = verdict.Accepted }
+replayed = recorded-run calls shift writable noted
+
+-- half a second at two and at four ticks a second: 0041 stands at tick 1, and 41 at tick 2
+abbrev stands : ℕ → ℕ → Type 0
+stands s n = clockTimeOf (afterAll freshStation calls .clocks) (id s 1) ≡ accepted record { clock = id s 1; ticks = n; fraction = zeroF }
+
+pub two-motors : stands 0 1 × stands 1 2
+unfolding afterAll clockTimeOf ofBits numberOf firstFault add sub mul lt le eq toUnsigned freeOf livesIn findOf readAt roomFor takenOf tickOf updateClockOf addClockOf tickOnOf runClockOf speeds.updateOf infoIn turnClock modulatorTurns modulatorsTurned clockTurns clocksTurned frameOf
+two-motors = (refl, refl)
 
 -- ---- refusals
 
@@ -75,7 +103,38 @@ pub leading-zero : verdictOn (ended «op=add» ++ ended («slot=» ++ 0x30 ∷ 0
 unfolding replayOf endOf tapeOf linesFrom judgeOf opOf sameBytes begins decimalBehind decimalOf numberFrom
 leading-zero = refl
 
--- the first add gives 0:1, and not 0:2
-pub wrong-id : verdictOn (ended «op=add» ++ ended («slot=» ++ 0x30 ∷ []) ++ ended («gen=» ++ 0x32 ∷ []) ++ ended («arg=» ++ replicate 16 0x30)) ≡ verdict.Refused 14 (place.Record 0)
+-- ---- refusals in the second record; the first puts 0:1 on, and has 41 bytes
+
+abbrev zeros : List ℕ
+zeros = replicate 16 0x30
+
+abbrev lines : List ℕ → List ℕ → List ℕ → List ℕ → List ℕ
+lines op s g a = ended op ++ ended («slot=» ++ s) ++ ended («gen=» ++ g) ++ ended («arg=» ++ a)
+
+abbrev added : List ℕ
+added = lines «op=add» (0x30 ∷ []) (0x31 ∷ []) zeros
+
+-- a bad third line starts at byte 56
+pub bad-line : verdictOn (added ++ ended «op=stop» ++ ended («slot=» ++ 0x30 ∷ []) ++ ended («gen=» ++ 0x30 ∷ 0x31 ∷ [])) ≡ verdict.Refused 13 (place.Byte 56)
+unfolding replayOf endOf takenOn numberOn tapeOf linesFrom judgeOf opOf sameBytes begins decimalBehind decimalOf hexBehind hex16Of numberFrom ofBits numberOf firstFault lt le eq freeOf addClockOf runClockOf
+bad-line = refl
+
+-- the recording ends behind three bytes of it
+pub cut : verdictOn (added ++ 0x6f ∷ 0x70 ∷ 0x3d ∷ []) ≡ verdict.Refused 13 (place.Byte 44)
+unfolding replayOf endOf takenOn numberOn tapeOf linesFrom judgeOf opOf sameBytes begins decimalBehind decimalOf hexBehind hex16Of numberFrom ofBits numberOf firstFault lt le eq freeOf addClockOf runClockOf
+cut = refl
+
+-- 0:2 does not live: the call's own number
+pub no-such : verdictOn (added ++ lines «op=stop» (0x30 ∷ []) (0x32 ∷ []) zeros) ≡ verdict.Refused 7 (place.Record 1)
+unfolding replayOf endOf takenOn numberOn tapeOf linesFrom judgeOf opOf sameBytes begins decimalBehind decimalOf hexBehind hex16Of numberFrom ofBits numberOf firstFault lt le eq freeOf livesIn findOf readAt addClockOf tickOnOf runClockOf
+no-such = refl
+
+-- an add whose speed is NaN, and which names another id than it would give: the call's own number comes first
+pub speed-first : verdictOn (added ++ lines «op=add» (0x30 ∷ []) (0x39 ∷ []) (0x37 ∷ 0x66 ∷ 0x66 ∷ 0x38 ∷ replicate 12 0x30)) ≡ verdict.Refused 3 (place.Record 1)
+unfolding replayOf endOf takenOn numberOn tapeOf linesFrom judgeOf opOf sameBytes begins decimalBehind decimalOf hexBehind hex16Of numberFrom ofBits numberOf firstFault lt le eq freeOf addClockOf runClockOf
+speed-first = refl
+
+-- the second add gives 1:1, and not 0:1: the station is the one from before it, with 0:1 alone
+pub wrong-id : replayOf (added ++ added) ≡ record { station = replayOf added .station; verdict = verdict.Refused 14 (place.Record 1) }
 unfolding replayOf endOf takenOn numberOn tapeOf linesFrom judgeOf opOf sameBytes begins decimalBehind decimalOf hexBehind hex16Of numberFrom ofBits numberOf firstFault lt le eq freeOf addClockOf runClockOf
 wrong-id = refl

@@ -4,11 +4,11 @@ use Prim.Native.Nat.{ℕ, _+_}
 use mathlib.Core.List.{List}
 use lib.ListN.{length}
 use Rattle.judge.specs.Answer.{Answer, accepted, refused}
-use Rattle.judge.specs.Numbers.{«TRACE»}
 use Rattle.station.specs.Stations.{freshStation}
 use Rattle.station.specs.declared.Station.{Station}
 use Rattle.record.specs.declared.Record.{Record}
-use Rattle.recording.specs.Recordings.{Tape, next, over, unfinished, trace, tapeAt}
+use Rattle.recording.specs.Recordings.{Tape, next, over, unfinished, trace, tapeAt, ReadTold, recorded, ended, refusedAt, toldRead}
+use Rattle.recording.specs.declared.Read.the-variants as read
 use Rattle.play.specs.Asked.{takenOn}
 use Rattle.play.specs.declared.Verdict.{Verdict}
 use Rattle.play.specs.declared.Verdict.the-variants as verdict
@@ -43,11 +43,17 @@ module _ {S : Type 0} (take : S → Record → Answer S) where
 
 -- ---- the answer
 
--- a recording of so many bytes that ends inside a record is refused at its length
+-- a refusal to read on, at a byte
+abbrev pub atByte : ReadTold → Verdict
+atByte (recorded r behind) = verdict.Accepted
+atByte ended = verdict.Accepted
+atByte (refusedAt m at) = verdict.Refused m (place.Byte at)
+
+-- of a recording of so many bytes
 abbrev pub verdictOf : ℕ → Ending → Verdict
 verdictOf n whole = verdict.Accepted
-verdictOf n inside = verdict.Refused «TRACE» (place.Byte n)
-verdictOf n (atLine at) = verdict.Refused «TRACE» (place.Byte at)
+verdictOf n inside = atByte (toldRead n read.Unfinished)
+verdictOf n (atLine at) = atByte (toldRead n (read.Bad at))
 verdictOf n (atRecord k m) = verdict.Refused m (place.Record k)
 
 abbrev pub replayed : ℕ → Ended Station → Replayed

@@ -47,7 +47,7 @@ pub struct Replayed {
     pub verdict: Verdict,
 }
 
-// What a record asks of a station.
+// What a record asks of a station. An add is a case of its own for `replay`, which says why.
 enum Asked {
     Add(SpeedValue),
     Command(ClockCommand),

@@ -16,7 +16,7 @@ pub fn is(line: &[u8], bytes: &[u8]) -> bool
     check::same(line, bytes)
 }
 
-// Whether a line begins with a name.
+// Its callers ask for the length too, since they go on to read behind the name.
 fn starts(line: &[u8], name: &[u8]) -> bool
     ensures { λ r. ⌜ r ≡ begins (now (name .entry)) (now (line .entry)) ⌝ }
 {

@@ -4,6 +4,7 @@ use mathlib.Core.Bool.{Bool, true, false, cond}
 use mathlib.Core.List.{List, [], _∷_, _++_}
 use lib.Dec.{eqb, leb, ltb}
 use lib.ListN.{length, drop}
+use Rattle.judge.specs.Numbers.{«TRACE»}
 use Rattle.record.specs.Records.{isFirst, judgeOf}
 use Rattle.record.specs.declared.Record.{Record}
 use Rattle.record.specs.declared.Part.{Part}
@@ -81,3 +82,18 @@ firstOf (trace at) = read.Bad at
 
 abbrev pub recordAt : List ℕ → ℕ → Read
 recordAt s at = firstOf (tapeAt s at)
+
+-- ---- what such an answer tells
+
+-- a record and the place behind it, nothing more, or a refusal's number with its place
+pub data ReadTold : Type 0 where
+  recorded : Record → ℕ → ReadTold
+  ended : ReadTold
+  refusedAt : ℕ → ℕ → ReadTold
+
+-- of a recording of so many bytes: one that ends inside a record is refused at its length: RULES, trace
+abbrev pub toldRead : ℕ → Read → ReadTold
+toldRead n (read.Record r behind) = recorded r behind
+toldRead n read.End = ended
+toldRead n read.Unfinished = refusedAt «TRACE» n
+toldRead n (read.Bad at) = refusedAt «TRACE» at

@@ -35,7 +35,7 @@ fn line_length(s: &[u8], most: usize) -> usize
     n
 }
 
-// What stands at a place.
+// At a place behind the last byte the recording has ended.
 pub fn record_at(s: &[u8], at: usize) -> Read
     ensures { λ r. ⌜ r ≡ recordAt (now (s .entry)) at ⌝ }
 {

@@ -31,7 +31,7 @@ fn refuse(n: u32, place: Place) {
     }
 }
 
-// Writes the first bytes of a buffer.
+// Writes the first bytes of a buffer. They are never more than it has; the test is for the proof.
 fn write(out: &[u8], n: usize) {
     if out.len() < n {
         return;
@@ -39,7 +39,7 @@ fn write(out: &[u8], n: usize) {
     io::write_all(1, &out[0..n]);
 }
 
-// Sixteen reports have room in the buffer, so none is refused.
+// Sixteen reports have room in the buffer, so none is refused. The arm for a refusal is there since the enum has it.
 fn show(r: Replayed) {
     let station = r.station;
     let clocks = station.clocks;

@@ -1,5 +1,5 @@
 // A call on the whole station: a clock's command, a modulator's command or a frame goes in, and what it answers comes
-// back beside the station. What drives a station goes through here.
+// back beside the station. The bench drives its station through here; a replay has its own way to the same calls.
 ghost use mathlib.Core.Path.{_≡_};
 ghost use Rattle.commands.specs.Answers.{toldAnswer};
 ghost use Rattle.run.specs.Runs.{told, reportsOf, after};

@@ -152,10 +152,14 @@ fn too_far() -> Vec<Vec<u8>> {
     made
 }
 
-/// A refusal is followed by others, and the first is the answer.
+/// A refusal is followed by others, and the first is the answer. One station has room, so that an add gives another id
+/// than its record has, and one has none; on both the first clock goes too far in a minute.
 fn orders() -> Vec<Vec<u8>> {
+    let fast = [record("add", 0, 1, 1_048_576.0), start(0)].concat();
+    let full = [fast.clone(), (1..SLOTS).flat_map(add).collect()].concat();
     let refused = [
         record("frame", 0, 0, -0.0),
+        record("frame", 0, 0, 60.0),
         record("add", 5, 9, f64::NAN),
         record("speed", 5, 9, f64::NAN),
         record("speed", 0, 1, f64::NAN),
@@ -169,15 +173,17 @@ fn orders() -> Vec<Vec<u8>> {
         b"op=fr".to_vec(),
     ];
     let mut made = Vec::new();
-    for first in &refused {
-        for second in &refused {
-            made.push([add(0), first.clone(), second.clone()].concat());
-        }
-        // However early it comes, the length is judged before it.
-        for length in [MOST, MOST + 1] {
-            let mut long = [add(0), first.clone()].concat();
-            long.resize(length, b'\n');
-            made.push(long);
+    for station in [fast, full] {
+        for first in &refused {
+            for second in &refused {
+                made.push([&station[..], first, second].concat());
+            }
+            // However early it comes, the length is judged before it.
+            for length in [MOST, MOST + 1] {
+                let mut long = [&station[..], first].concat();
+                long.resize(length, b'\n');
+                made.push(long);
+            }
         }
     }
     made
