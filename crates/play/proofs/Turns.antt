@@ -24,7 +24,7 @@ use Rattle.recording.specs.declared.Read.{Read}
 use Rattle.recording.specs.declared.Read.the-variants as read
 use Rattle.recording.proofs.Places.{There, is-over, is-unfinished, is-bad}
 use Rattle.play.specs.Asked.{callOf, callAs, numberFor, numberOn, takenOn}
-use Rattle.play.specs.Replays.{whole, inside, atLine, atRecord, Ended, endOf}
+use Rattle.play.specs.Replays.{whole, inside, atLine, atRecord, endOf}
 use Rattle.play.specs.declared.Asked.{Asked}
 
 -- ---- a record's call c, once it was made, and the number n that was found for it

@@ -15,7 +15,7 @@ use Rattle.station.specs.declared.Station.{Station}
 use Rattle.recording.specs.Recordings.{tapeAt}
 use Rattle.recording.proofs.Places.{There, there}
 use Rattle.play.specs.Asked.{takenOn}
-use Rattle.play.specs.Replays.{Ended, endOf, replayed, replayOf}
+use Rattle.play.specs.Replays.{endOf, replayed, replayOf}
 use Rattle.play.specs.declared.Replayed.{Replayed}
 use Rattle.play.specs.declared.Verdict.{Verdict}
 use Rattle.play.proofs.Turns.{made, command-refused, command-taken, frame-refused, frame-taken, refuses, accepts, ends, ends-inside, ends-at}

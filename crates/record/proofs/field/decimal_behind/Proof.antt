@@ -3,7 +3,6 @@ use Rattle.record.proofs.field.Lines.{short, onward}
 use Rattle.record.specs.Fields.{decimalBehind}
 use borrow.Author.Tests.{not-true, not-false, le-leb, lt-leb}
 use mathlib.Core.Path.{sym, _∙_}
-use native.Mathlib.Omega.{arith}
 use denote.Ref.{now}
 use borrow.Author.Needs.{needs}
 use Rattle.record.proofs.field.decimal_behind.Statement.{statement}

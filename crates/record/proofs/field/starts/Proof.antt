@@ -5,7 +5,6 @@ use lib.Seq.{length-take-le}
 use mathlib.Core.Path.{sym}
 use native.Mathlib.Omega.{arith}
 use denote.Ref.{now}
-use borrow.Author.Needs.{needs}
 use Rattle.record.proofs.field.starts.Statement.{statement}
 use Rattle.record.proofs.field.starts.Tie as tie
 
