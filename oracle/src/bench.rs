@@ -4,6 +4,7 @@ mod clocks;
 mod curves;
 mod floats;
 mod frames;
+mod given;
 mod judge;
 mod less;
 mod lines;

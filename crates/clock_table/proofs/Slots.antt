@@ -11,13 +11,11 @@ use borrow.Author.Tests.{eqb-true, eq-eqb}
 use mir.Val.{Val}
 use denote.Laws.{Is}
 use denote.Struct.Declared.{row}
-use Rattle.ids.specs.Keys.{livesIn, noSuch, findOf}
-use Rattle.ids.specs.Tables.{whereIs, readFound}
+use Rattle.ids.specs.Tables.{onEntry, whereIs, readFound}
 use Rattle.ids.proofs.Entries.{entry-map}
-use Rattle.ids.proofs.Places.{lives-inside}
-use Rattle.judge.specs.Answer.{Answer, accepted, refused, onAccepted}
+use Rattle.ids.proofs.Places.{lives-inside, found-case}
+use Rattle.judge.specs.Answer.{accepted, refused, onAccepted}
 use Rattle.judge.specs.Judge.{firstFault, decided}
-use Rattle.judge.specs.Numbers.{«NO_SUCH»}
 use Rattle.times.specs.declared.time.ClockId.{ClockId}
 use Rattle.times.specs.declared.tween.Tween.{Tween}
 use Rattle.values.specs.declared.value.SpeedValue.{SpeedValue}
@@ -57,15 +55,13 @@ module _ (t : Clocks) (id : ClockId) {r s : Looked} (is : toldLooked r ≡ lookO
 -- a clock that was looked up: its id's slot is one of the 16
 module _ (t : Clocks) (id : ClockId) (n : Sixteen t) {r : Looked} {i : ℕ} {c : Clock} (is : toldLooked r ≡ lookOf t id) (told : r ≡ At i c) where
   pub slot-below : id .slot < 16
-  unfolding lookOf findOf
-  slot-below = go (livesIn (t .keys) (id .slot) (id .generation)) refl (sym is ∙ ap toldLooked told)
-    where
-      go : (b : Bool) → livesIn (t .keys) (id .slot) (id .generation) ≡ b → _≡_ {A = Answer InSlot} (lookOf t id) (accepted (inSlot i c)) → id .slot < 16
-      go true l e = omega (arith, lives-inside (t .keys) (id .slot) (id .generation) l, n .keys)
-      go false l e =
-          let f : lookOf t id ≡ refused «NO_SUCH» = rw l in
-          let z : _≡_ {A = ℕ} 0 1 = cc in
-          absurd (omega arith)
+  unfolding lookOf
+  slot-below =
+      found-case (t .keys) (id .slot) (id .generation)
+      (λ w. onEntry refused (t .clocks) w (λ i c. accepted (inSlot i c)) ≡ accepted (inSlot i c) → id .slot < 16)
+      (λ m y l e. let z : _≡_ {A = ℕ} 0 1 = cc in absurd (omega arith))
+      (λ l e. omega (arith, lives-inside (t .keys) (id .slot) (id .generation) l, n .keys))
+      (sym is ∙ ap toldLooked told)
 
 -- ---- what is stored
 

@@ -77,7 +77,7 @@ abbrev pub toldLooked : Looked → Answer InSlot
 toldLooked (looked.At i c) = accepted (inSlot i c)
 toldLooked (looked.Refused n) = refused n
 
--- the clock that an id names, with its slot: RULES, living-id and no-such
+-- the clock that an id names, with its slot: RULES, living-id, gone and never-issued
 unfoldable pub lookOf : Clocks → ClockId → Answer InSlot
 lookOf t id = onEntry refused (t .clocks) (whereIs clockTable t id) (λ i c. accepted (inSlot i c))
 

@@ -2,13 +2,14 @@
 -- in the order whose condition holds; and the same read both ways. 01, "Refusal numbers". RULES, exact-refusals.
 -- Assumes nothing.
 use Prim.Native.Nat.{ℕ}
-use mathlib.Core.Path.{_≡_, refl, sym, _∙_}
+use mathlib.Core.Path.{_≡_, refl, sym, ap, _∙_}
 use mathlib.Core.Bool.{Bool, true, false, cond, false≢true}
 use mathlib.Core.Logic.{_↔_}
 use mathlib.Core.List.{List}
 use lib.ListN.{length}
 use lib.Dec.{eqb, ltb}
-use Rattle.judge.specs.Answer.{accepted, refused, numberTold}
+use Rattle.ids.specs.Tables.{readFound}
+use Rattle.judge.specs.Answer.{Answer, accepted, refused, numberTold}
 use Rattle.judge.specs.Judge.{Conditions, ofArguments, bothFaults, dtFaults, floatFaults, numberOf, firstFault, decided, judged}
 use Rattle.judge.specs.Numbers.{«BUFFER»}
 use Rattle.values.specs.Speeds.{speedFaults}
@@ -25,9 +26,10 @@ use Rattle.parameter.specs.declared.speed.SpeedAdvanced.{SpeedAdvanced}
 use Rattle.parameter.specs.declared.speed.SpeedSet.{SpeedSet}
 use Rattle.info.specs.Infos.{tryWhenToStartOf, tryRawFloatIn, tryRawSpeedIn}
 use Rattle.info.specs.ParametersIn.{tryUpdateFloatIn, tryUpdateSpeedIn}
+use Rattle.clock_table.specs.ClockTables.{clockTable}
 use Rattle.station.specs.Frames.{frameOf}
 use Rattle.station.specs.declared.Station.{Station}
-use Rattle.report.specs.Reports.{unchanged, atStart, tooShort, reportText, reportOf}
+use Rattle.report.specs.Reports.{unchanged, atStart, tooShort, reportText, intoBuffer, reportOf}
 use Rattle.laws.specs.Calls.{Call, clock, modulator, frame, refusal, done, callNumber}
 use Rattle.laws.specs.SoundStation.{All}
 use Rattle.laws.proofs.lemmas.Entries.{names-read}
@@ -54,7 +56,7 @@ call-number st t (frame dt) =
 
 -- a call that acts on no entry
 arguments-number : {R : Type 0} (number : R → ℕ) (f : Faults) (x y : R) → number x ≡ 0 → number y ≡ firstFault f → number (cond (eqb (firstFault f) 0) x y) ≡ firstIn order (holds (ofArguments f))
-arguments-number number f x y p q = judged-number number x y (firstFault f) p q ∙ sym (id-given false f)
+arguments-number number f x y p q = judged-number number x y (firstFault f) p q ∙ sym (id-given false false f)
 
 -- a judged answer that asks nothing behind the faults
 judged-given : {A : Type 0} (f : Faults) (x : A) → numberTold (judged f (accepted x)) ≡ firstIn order (holds (ofArguments f))
@@ -64,9 +66,12 @@ report-number : (st : Station) → Tables st → (id : ClockId) (out : List ℕ)
 unfolding reportOf firstIn numberOf
 report-number st t id out =
     clock-case st (t .clocks) id
-    (λ m e. rw (e, m))
-    (λ m c n. rw (names-read (st .clocks) id c n (reportText id), m) (go (reportText id c) (tooShort out)))
+    (λ e m. ap told (ap (λ (w : Answer ℕ). readFound clockTable (st .clocks) w (reportText id)) e) ∙ sym (m (cond (tooShort out) «BUFFER» 0)))
+    (λ c n m. ap told (names-read (st .clocks) id c n (reportText id)) ∙ go (reportText id c) (tooShort out) ∙ sym (m (cond (tooShort out) «BUFFER» 0)))
   where
+    told : Answer (List ℕ) → ℕ
+    told a = numberTold (intoBuffer out a .answer)
+
     go : (text : List ℕ) (b : Bool) → numberTold (decided (cond b «BUFFER» 0) (atStart text out) (λ n. unchanged n out) .answer) ≡ cond b «BUFFER» 0
     go text true = refl
     go text false = refl

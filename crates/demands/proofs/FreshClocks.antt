@@ -14,7 +14,7 @@ use Rattle.ids.proofs.Names.{add-lives}
 use Rattle.ids.proofs.Places.{read-set-same, room-inside}
 use Rattle.judge.specs.Answer.{Answer, accepted, refused, isRefused}
 use Rattle.judge.specs.Judge.{ofAdd, numberOf}
-use Rattle.judge.specs.Numbers.{«NO_SUCH»}
+use Rattle.judge.specs.Numbers.{«NEVER_ISSUED»}
 use Rattle.times.specs.declared.time.ClockId.{ClockId}
 use Rattle.values.specs.Values.{speedValueFaults}
 use Rattle.values.specs.declared.value.SpeedValue.{SpeedValue}
@@ -64,7 +64,7 @@ module _ (t : Clocks) (s : Sixteen t) (v : SpeedValue) (id : ClockId) where
       record {
         slot = omega arith;
         clock = newClock v;
-        names = rw (← p, ← q) (record { lives = add-lives (t .keys) i g e; holds = read-set-same (refused «NO_SUCH») (λ x. accepted x) (t .clocks) i (newClock v) (omega arith) });
+        names = rw (← p, ← q) (record { lives = add-lives (t .keys) i g e; holds = read-set-same (refused «NEVER_ISSUED») (λ x. accepted x) (t .clocks) i (newClock v) (omega arith) });
         still = refl;
         unstarted = refl;
       }

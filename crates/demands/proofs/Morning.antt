@@ -1,42 +1,52 @@
 -- Names that cannot be shared: two ids that live are apart, what is done with one leaves every other clock as it was,
--- an id that died stays dead, and a slot whose generations are used up holds nothing again. 01, "Names that cannot be
--- shared". RULES, apart. Assumes nothing.
+-- an id that died stays dead, and is told so, and a slot whose generations are used up holds nothing again. 01, "Names
+-- that cannot be shared"; 02, dead or never ours. RULES, apart and gone. Assumes nothing.
 use Prim.Native.Nat.{ℕ, zero, suc, _≤_}
 use native.Mathlib.Decide.{ℕ-discrete}
 use native.Mathlib.Omega.{arith}
-use mathlib.Core.Path.{_≡_, refl, sym, _∙_}
+use mathlib.Core.Path.{_≡_, refl, sym, subst, _∙_}
+use mathlib.Core.Logic.{_⊎_, inl, inr}
 use mathlib.Core.Bool.{Bool, true, false, _&&_, false≢true}
 use mathlib.Core.List.{List, [], _∷_, map}
 use lib.ListN.{set}
 use lib.Dec.{eqb}
 use lib.Ieee.{Float}
 use borrow.Author.Tests.{eqb-true, eqb-false}
-use Rattle.ids.specs.Keys.{usedAt, generationAt, takenAt, leftAt, Later, same, added, removed}
+use Rattle.ids.specs.Keys.{usedAt, generationAt, gone, takenAt, leftAt, Spent, Later, same, added, removed}
 use Rattle.ids.specs.Lists.{readAt}
 use Rattle.ids.specs.declared.Key.{Key}
 use Rattle.ids.proofs.Names.{later-rises, later-numbered}
-use Rattle.ids.proofs.Places.{read-set-other, lives-parts, gives}
+use Rattle.ids.proofs.Standings.{given-gone, living-given}
+use Rattle.ids.proofs.Places.{read-set-other, lives-parts, find-missing, gives}
 use Rattle.judge.specs.Answer.{accepted}
+use Rattle.judge.specs.Numbers.{«GONE»}
 use Rattle.times.specs.declared.start_time.When.the-variants.{Never}
 use Rattle.times.specs.declared.time.ClockId.{ClockId}
+use Rattle.times.specs.declared.time.ClockTime.{ClockTime}
+use Rattle.values.specs.declared.value.Input.the-variants.{None}
 use Rattle.values.specs.declared.value.ModulatorId.{ModulatorId}
-use Rattle.info.specs.Infos.{dueOf, whenToStartOf}
+use Rattle.info.specs.Infos.{dueOf, whenToStartOf, modulatorValueOf}
 use Rattle.clock.specs.declared.ClockInfo.{ClockInfo}
 use Rattle.clock.specs.OneClock.{infoOf}
 use Rattle.clock_table.specs.ClockTables.{timeOf, clockTimeOf, clockTickingOf, clockSpeedOf}
 use Rattle.clock.specs.declared.Clock.{Clock}
+use Rattle.modulator_table.specs.declared.Modulator.{Modulator}
 use Rattle.commands.specs.declared.clock_command.ClockCommand.{ClockCommand}
 use Rattle.commands.specs.declared.clock_command.ClockCommand.the-variants as clocks
 use Rattle.commands.specs.declared.modulator_command.ModulatorCommand.the-variants as modulators
 use Rattle.station.specs.Stations.{freshStation, infoIn}
 use Rattle.station.specs.declared.Station.{Station}
 use Rattle.report.specs.Reports.{intoBuffer, reportText, reportOf}
-use Rattle.laws.specs.Calls.{Call, clock, modulator, after, afterAll, Kind, ofClock, ofModulator, keysOf, lives, callNumber, entry, clockTarget, targetOf, Touches}
+use Rattle.laws.specs.Calls.{Call, clock, modulator, after, afterAll, Kind, ofClock, ofModulator, keysOf, lives, standing, callNumber, entry, clockTarget, targetOf, Touches}
 use Rattle.laws.proofs.Apart.{two-slots, apart}
+use Rattle.laws.proofs.Issued.{gone-stays}
 use Rattle.laws.proofs.lemmas.Entries.{Holds, holds-read, lives-used, stays-held, Names, names-of, names-where, names-read}
 use Rattle.laws.proofs.Lives.{clock-removed, modulator-removed, run-later, run-spent, never-again, run-numbered}
+use Rattle.demands.specs.Entries.{Lent, Tables, Entry, numberGiven}
 use Rattle.demands.specs.Events.{clockIn}
+use Rattle.demands.specs.Log.{Named, anyOf, kindOf, namedBy, IsGone}
 use Rattle.demands.specs.Served.{awaited}
+use Rattle.demands.proofs.Log.{run-tables, seven}
 
 -- ---- two ids that live are in two slots
 
@@ -138,12 +148,50 @@ module _ (k : Kind) (st : Station) (i g : ℕ) where
 -- an accepted removal is such a death
 module _ (st : Station) where
   pub removed-clock : (id : ClockId) → callNumber st (clock (clocks.Remove id)) ≡ 0 → (cs : List Call) → lives ofClock (afterAll (after st (clock (clocks.Remove id))) cs) (id .slot) (id .generation) ≡ false
-  removed-clock id z cs = run-spent ofClock (after st (clock (clocks.Remove id))) (id .slot) (id .generation) (clock-removed st id z) cs .dead
+  removed-clock id z cs = run-spent ofClock (after st (clock (clocks.Remove id))) (id .slot) (id .generation) (clock-removed st id z .1) cs .dead
 
   pub removed-modulator :
       (id : ModulatorId) → callNumber st (modulator (modulators.Remove id)) ≡ 0 → (cs : List Call)
       → lives ofModulator (afterAll (after st (modulator (modulators.Remove id))) cs) (id .slot) (id .generation) ≡ false
-  removed-modulator id z cs = run-spent ofModulator (after st (modulator (modulators.Remove id))) (id .slot) (id .generation) (modulator-removed st id z) cs .dead
+  removed-modulator id z cs = run-spent ofModulator (after st (modulator (modulators.Remove id))) (id .slot) (id .generation) (modulator-removed st id z .1) cs .dead
+
+-- ---- and every call that names it says so
+
+-- Yesterday's 41: the calls cs led to a station, an accepted removal took the entry off, and any calls ds came after,
+-- adds into its slot too. Every call by the id, a read and a report too, is answered 7, whatever else is wrong with it:
+-- RULES, gone. A removed modulator's is so by a call for either kind.
+module _ (cs ds : List Call) where
+  over : (k : Kind) (c : Call) (i g : ℕ) → (lives k (afterAll freshStation cs) i g ≡ true) × Spent (keysOf k (after (afterAll freshStation cs) c)) i g → standing k (afterAll (afterAll freshStation cs) (c ∷ ds)) i g ≡ gone
+  unfolding afterAll
+  over k c i g r =
+      let was = living-given (keysOf k (afterAll freshStation cs)) i g (run-numbered k cs) (r .0) in
+      gone-stays k i g (after (afterAll freshStation cs) c) (given-gone _ i g (record { least = was .least; most = r .1 .given }) (r .1 .dead)) ds
+
+  module _ (l : Lent) (e : Entry) where
+    sevenfold : (c : Call) (n : Named) → l .station ≡ afterAll (afterAll freshStation cs) (c ∷ ds) → namedBy e ≡ n → IsGone (afterAll (afterAll freshStation cs) (c ∷ ds)) n → numberGiven l e ≡ «GONE»
+    sevenfold c n at is h = seven l (subst Tables (sym at) (run-tables cs (c ∷ ds))) e .1 (rw (at, is) h)
+
+    pub yesterday-gone :
+        (id : ClockId) → callNumber (afterAll freshStation cs) (clock (clocks.Remove id)) ≡ 0 → l .station ≡ afterAll (afterAll freshStation cs) (clock (clocks.Remove id) ∷ ds)
+        → namedBy e ≡ anyOf ofClock (id .slot) (id .generation) → numberGiven l e ≡ «GONE»
+    yesterday-gone id z at n = sevenfold _ _ at n (over ofClock _ (id .slot) (id .generation) (clock-removed (afterAll freshStation cs) id z))
+
+    pub modulator-gone :
+        (id : ModulatorId) → callNumber (afterAll freshStation cs) (modulator (modulators.Remove id)) ≡ 0 → l .station ≡ afterAll (afterAll freshStation cs) (modulator (modulators.Remove id) ∷ ds)
+        → (namedBy e ≡ anyOf ofModulator (id .slot) (id .generation)) ⊎ ((f : Modulator → Bool) × (namedBy e ≡ kindOf f (id .slot) (id .generation))) → numberGiven l e ≡ «GONE»
+    modulator-gone id z at (inl n) = sevenfold _ _ at n (over ofModulator _ (id .slot) (id .generation) (modulator-removed (afterAll freshStation cs) id z))
+    modulator-gone id z at (inr (f, n)) = sevenfold _ _ at n (over ofModulator _ (id .slot) (id .generation) (modulator-removed (afterAll freshStation cs) id z))
+
+-- Whoever waits for an id that does not live, gone or never issued, is told never, and a link to one is told nothing,
+-- so its value stays: RULES, never and missing-modulator
+module _ (st : Station) where
+  pub waits-never : (t : ClockTime) → lives ofClock st (t .clock .slot) (t .clock .generation) ≡ false → whenToStartOf (infoIn st) t ≡ Never
+  unfolding whenToStartOf infoIn
+  waits-never t d = rw (find-missing (st .clocks .keys) (t .clock .slot) (t .clock .generation) d)
+
+  pub link-none : (id : ModulatorId) → lives ofModulator st (id .slot) (id .generation) ≡ false → modulatorValueOf (infoIn st) id ≡ None
+  unfolding modulatorValueOf infoIn
+  link-none id d = rw (find-missing (st .modulators .keys) (id .slot) (id .generation) d)
 
 -- nothing lives again in a slot whose generations are used up, under any generation: RULES, retired-slot
 record Retired (ks : List Key) (i : ℕ) : Type 0 where

@@ -37,7 +37,7 @@ unwritten out (refused n) h = refl
 unwritten out (accepted text) h = go (eqb n 0) h
   where
     n : ℕ
-    n = numberOf (ofReport false (tooShort out))
+    n = numberOf (ofReport false false (tooShort out))
 
     go : (b : Bool) → (numberTold (cond b (atStart text out) (asItWas n out) .answer) ≡ 0 → ⊥) → cond b (atStart text out) (asItWas n out) .out ≡ out
     go true h = absurd (h refl)
@@ -88,7 +88,7 @@ report-numbered t id out = go (readFound clockTable t (whereIs clockTable t id) 
     go (accepted text) h = by (eqb n 0) (eqb-false n 0)
       where
         n : ℕ
-        n = numberOf (ofReport false (tooShort out))
+        n = numberOf (ofReport false false (tooShort out))
 
         by : (b : Bool) → (b ≡ false → n ≡ 0 → ⊥) → Numbered (cond b (atStart text out) (asItWas n out) .answer)
         by true h = tt

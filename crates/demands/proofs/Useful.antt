@@ -8,7 +8,7 @@ use mathlib.Core.Path.{_≡_, refl, sym, ap, _∙_}
 use mathlib.Core.List.{List}
 use lib.Ieee.{Float, add, sub, mul, lt, le, eq, toUnsigned}
 use Rattle.doubles.specs.Doubles.{zeroF, oneF}
-use Rattle.ids.specs.Keys.{freeOf, livesIn, findOf}
+use Rattle.ids.specs.Keys.{freeOf, livesIn, standingOf, findOf}
 use Rattle.ids.specs.Lists.{readAt}
 use Rattle.ticks.specs.WholeTicks.{roomFor, takenOf}
 use Rattle.judge.specs.Answer.{Answer, accepted, refused}
@@ -54,16 +54,16 @@ running = after withClock (clock (Start first))
 -- Not every call is refused: an add, a start and a frame are accepted. A program that accepts these three alone meets
 -- it; which calls are accepted, in general, `accepted-exactly` of `Exactly` says.
 pub some-call-is-accepted : (callNumber freshStation (clock (Add one)) ≡ 0) × (callNumber withClock (clock (Start first)) ≡ 0) × (callNumber running (frame oneF) ≡ 0)
-unfolding numberOf firstFault add sub mul lt le eq toUnsigned freeOf livesIn findOf readAt roomFor takenOf tickOf updateClockOf addClockOf tickOnOf runClockOf speeds.updateOf infoIn turnClock modulatorTurns modulatorsTurned clockTurns clocksTurned frameOf
+unfolding numberOf firstFault add sub mul lt le eq toUnsigned freeOf livesIn standingOf findOf readAt roomFor takenOf tickOf updateClockOf addClockOf tickOnOf runClockOf speeds.updateOf infoIn turnClock modulatorTurns modulatorsTurned clockTurns clocksTurned frameOf
 some-call-is-accepted = (refl, refl, refl)
 
 -- the clock's time, once it was started, and a frame of a second later
 at-zero : clockTimeOf (running .clocks) first ≡ accepted (timeAt first 0 zeroF)
-unfolding numberOf firstFault lt le eq freeOf livesIn findOf readAt addClockOf tickOnOf clockTimeOf runClockOf
+unfolding numberOf firstFault lt le eq freeOf livesIn standingOf findOf readAt addClockOf tickOnOf clockTimeOf runClockOf
 at-zero = refl
 
 at-one : clockTimeOf (after running (frame oneF) .clocks) first ≡ accepted (timeAt first 1 zeroF)
-unfolding numberOf firstFault add sub mul lt le eq toUnsigned freeOf livesIn findOf readAt roomFor takenOf tickOf updateClockOf addClockOf tickOnOf clockTimeOf runClockOf speeds.updateOf infoIn turnClock modulatorTurns modulatorsTurned clockTurns clocksTurned frameOf
+unfolding numberOf firstFault add sub mul lt le eq toUnsigned freeOf livesIn standingOf findOf readAt roomFor takenOf tickOf updateClockOf addClockOf tickOnOf clockTimeOf runClockOf speeds.updateOf infoIn turnClock modulatorTurns modulatorsTurned clockTurns clocksTurned frameOf
 at-one = refl
 
 abbrev ticksIn : Answer ClockTime → ℕ

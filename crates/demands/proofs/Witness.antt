@@ -12,12 +12,12 @@ use lib.IntN.{pos, negsuc}
 use lib.Dec.{lit≤}
 use lib.Ieee.{Float, fin, add, sub, mul, div, lt, le, eq, fits, toUnsigned, ofInt}
 use Rattle.doubles.specs.Doubles.{zeroF, oneF, halfF, scaled}
-use Rattle.ids.specs.Keys.{freeOf, livesIn, findOf}
+use Rattle.ids.specs.Keys.{freeOf, livesIn, standingOf, findOf}
 use Rattle.ids.specs.Lists.{readAt}
 use Rattle.ticks.specs.WholeTicks.{roomFor, takenOf}
 use Rattle.times.specs.Durations.{secondsOf}
 use Rattle.judge.specs.Judge.{numberOf, firstFault}
-use Rattle.judge.specs.Numbers.{«NO_SUCH», «TOO_FAR»}
+use Rattle.judge.specs.Numbers.{«GONE», «TOO_FAR», «NEVER_ISSUED»}
 use Rattle.values.specs.Speeds.{interpolateSpeedOf}
 use Rattle.times.specs.Times.{orderOf, placeAt}
 use Rattle.values.specs.declared.clock_speed.ClockSpeed.the-variants.{TicksPerSecond}
@@ -82,7 +82,7 @@ unfolding idOf
 ours = idOf 1 2
 
 given : told (afterAll freshStation before) (clock (command.Add pace)) ≡ named ofClock 1 2
-unfolding before idOf pace afterAll runClockOf addClockOf removeOf freeOf livesIn findOf readAt numberOf firstFault le lt eq
+unfolding before idOf pace afterAll runClockOf addClockOf removeOf freeOf livesIn standingOf findOf readAt numberOf firstFault le lt eq
 given = refl
 
 -- a modulator, a clock linked to it, the start of the fast clock, and a frame before ours is started
@@ -164,8 +164,9 @@ waiting = floats.trySetOf rest (float.Fixed (fin false 1 (pos 3))) waits .parame
 -- ---- what is computed
 
 record Computed : Type 0 where
-  -- NO_SUCH, and TOO_FAR
-  dead : callNumber (started st ours) (clock (command.Start (idOf 1 1))) ≡ «NO_SUCH»
+  -- GONE for the clock that had the slot before, NEVER_ISSUED for the one that will have it next, and TOO_FAR
+  dead : callNumber (started st ours) (clock (command.Start (idOf 1 1))) ≡ «GONE»
+  foreign : callNumber (started st ours) (clock (command.Start (idOf 1 3))) ≡ «NEVER_ISSUED»
   far : callNumber (started st ours) (frame oneF) ≡ «TOO_FAR»
   -- four of the five frames are accepted
   advances : advancesOf ours (started st ours) es ≡ fin false 3 (negsuc 2) ∷ fin false 3 (negsuc 1) ∷ fin false 3 (negsuc 1) ∷ fin false 3 (negsuc 1) ∷ []
@@ -176,8 +177,8 @@ record Computed : Type 0 where
   times : progressOf floatKind (courseOf floatKind (started st ours) waiting es) ≡ running (newCourse waits) ∷ running (newCourse waits) ∷ running (record { tween = waits; time = quarter }) ∷ resting ∷ []
 
 computed : Computed
-unfolding courseOf progressOf testsOf firstPass advancesOf advanceIn inOrder moves waiting waits rest es st ours before pace between quarter idOf tryUpdateFloatIn floats.trySetOf floats.updateOf floats.tweenedOf floats.tryUpdateOf afterAll runClockOf runModulatorOf addClockOf removeOf tickOnOf setSpeedOf addTweenerOf freeOf livesIn findOf readAt numberOf firstFault le lt eq add sub mul div toUnsigned ofInt secondsOf interpolateSpeedOf applyOf tweenValueOf amountOf mapSpeedOf stepOf speeds.updateOf speeds.tweenedOf speeds.trySetOf modulatorValueOf whenToStartOf orderOf roomFor takenOf tickOf updateClockOf updateTweenerOf infoIn turnClock turnModulator modulatorTurns modulatorsTurned clockTurns clocksTurned frameOf
-computed = record { dead = refl; far = refl; advances = refl; ordered = refl; accepts = refl; third = refl; times = refl }
+unfolding courseOf progressOf testsOf firstPass advancesOf advanceIn inOrder moves waiting waits rest es st ours before pace between quarter idOf tryUpdateFloatIn floats.trySetOf floats.updateOf floats.tweenedOf floats.tryUpdateOf afterAll runClockOf runModulatorOf addClockOf removeOf tickOnOf setSpeedOf addTweenerOf freeOf livesIn standingOf findOf readAt numberOf firstFault le lt eq add sub mul div toUnsigned ofInt secondsOf interpolateSpeedOf applyOf tweenValueOf amountOf mapSpeedOf stepOf speeds.updateOf speeds.tweenedOf speeds.trySetOf modulatorValueOf whenToStartOf orderOf roomFor takenOf tickOf updateClockOf updateTweenerOf infoIn turnClock turnModulator modulatorTurns modulatorsTurned clockTurns clocksTurned frameOf
+computed = record { dead = refl; foreign = refl; far = refl; advances = refl; ordered = refl; accepts = refl; third = refl; times = refl }
 
 -- ---- the theorem, applied
 

@@ -5,9 +5,10 @@ use mathlib.Core.Bool.{Bool, true, false, not, _&&_, _||_, cond}
 use mathlib.Core.List.{List, [], _∷_}
 use lib.IntN.{pos}
 use lib.ListN.{length}
-use lib.Dec.{ltb}
+use lib.Dec.{ltb, eqb}
 use lib.Ieee.{Float, fin, neg, lt}
 use Rattle.doubles.specs.Doubles.{signOf, scaled}
+use Rattle.ids.specs.Keys.{livesIn, generationAt}
 use Rattle.ids.specs.Lists.{readAt}
 use Rattle.ids.specs.declared.Key.{Key}
 use Rattle.ticks.specs.WholeTicks.{takenOf}
@@ -49,13 +50,18 @@ use Rattle.laws.specs.Calls.{Call, clock, modulator, frame, ofClock, ofModulato
 use Rattle.demands.specs.Entries.{Lent, Shift, addTicks, subTicks, addFloat, subFloat, Entry, onStation, setFloat, setSpeed, updateFloat, updateSpeed, advanceFloat, advanceSpeed, report, when, readFloat, readSpeed, startIn, makeFloat, makeSpeed, shift}
 use Rattle.demands.specs.Events.{clockIn}
 
--- ---- NO_SUCH, of an id: RULES, no-such
+-- ---- GONE and NEVER_ISSUED, of an id: RULES, gone and never-issued
 
-abbrev pub noClock : Station → ClockId → Bool
-noClock st id = not (lives ofClock st (id .slot) (id .generation))
+-- no id that the table has given out: of generation 0, of one above its slot's present generation, or of no slot of
+-- the 16
+abbrev pub strange : List Key → ℕ → ℕ → Bool
+strange ks i g = eqb g 0 || ltb (generationAt ks i) g || not (ltb i 16)
 
-abbrev pub noModulator : Station → ModulatorId → Bool
-noModulator st id = not (lives ofModulator st (id .slot) (id .generation))
+abbrev pub goneIn : List Key → ℕ → ℕ → Bool
+goneIn ks i g = not (livesIn ks i g) && not (strange ks i g)
+
+abbrev pub neverIn : List Key → ℕ → ℕ → Bool
+neverIn ks i g = not (livesIn ks i g) && strange ks i g
 
 abbrev pub isTweener : Modulator → Bool
 isTweener (OfTweener t) = true
@@ -64,9 +70,19 @@ isTweener (OfLfo l) = false
 abbrev pub isLfo : Modulator → Bool
 isLfo m = not (isTweener m)
 
--- no living modulator of the kind that f tells
-abbrev pub noneOf : (Modulator → Bool) → Station → ModulatorId → Bool
-noneOf f st id = noModulator st id || not (readAt false (λ s. f (s .modulator)) (st .modulators .slots) (id .slot))
+-- a living modulator of the other kind than f tells
+abbrev pub otherKind : (Modulator → Bool) → Station → ModulatorId → Bool
+otherKind f st id = lives ofModulator st (id .slot) (id .generation) && not (readAt false (λ s. f (s .modulator)) (st .modulators .slots) (id .slot))
+
+-- a call by the id of a clock, of a modulator, and of a modulator of the kind that f tells
+abbrev pub byClock : Station → ClockId → Faults → Conditions
+byClock st id f = ofId (goneIn (keysOf ofClock st) (id .slot) (id .generation)) (neverIn (keysOf ofClock st) (id .slot) (id .generation)) f
+
+abbrev pub byModulator : Station → ModulatorId → Faults → Conditions
+byModulator st id f = ofId (goneIn (keysOf ofModulator st) (id .slot) (id .generation)) (neverIn (keysOf ofModulator st) (id .slot) (id .generation)) f
+
+abbrev pub byKind : (Modulator → Bool) → Station → ModulatorId → Faults → Conditions
+byKind k st id f = ofId (goneIn (keysOf ofModulator st) (id .slot) (id .generation)) (neverIn (keysOf ofModulator st) (id .slot) (id .generation) || otherKind k st id) f
 
 -- ---- NO_ROOM, of an add: RULES, no-room
 
@@ -117,31 +133,32 @@ inFrame f st dt = lowestIn f (seeing (infoIn st) (turned (infoIn st) dt (st .mod
 abbrev pub ofAdd : Faults → List Key → Conditions
 ofAdd f ks = judge.ofAdd f (everyTaken ks)
 
--- a set is judged by the present speed too (RULES, bad-reading); where there is no such clock, by the arguments alone
+-- a set is judged by the present speed too (RULES, bad-reading); where no clock lives under the id, by the arguments
+-- alone
 abbrev pub setFaultsOn : Answer Clock → SpeedValue → Tween → Faults
 setFaultsOn (accepted c) v w = speeds.setFaults (c .speed) v w
 setFaultsOn (refused n) v w = bothFaults (speedValueFaults v) (tweenFaults w)
 
 abbrev pub ofClocks : Station → ClockCommand → Conditions
 ofClocks st (clocks.Add v) = ofAdd (speedValueFaults v) (keysOf ofClock st)
-ofClocks st (clocks.Remove id) = ofId (noClock st id) noFaults
-ofClocks st (clocks.Start id) = ofId (noClock st id) noFaults
-ofClocks st (clocks.Stop id) = ofId (noClock st id) noFaults
-ofClocks st (clocks.Reset id) = ofId (noClock st id) noFaults
-ofClocks st (clocks.SetSpeed id v w) = ofId (noClock st id) (setFaultsOn (clockIn st id) v w)
-ofClocks st (clocks.Time id) = ofId (noClock st id) noFaults
-ofClocks st (clocks.Ticking id) = ofId (noClock st id) noFaults
-ofClocks st (clocks.Speed id) = ofId (noClock st id) noFaults
+ofClocks st (clocks.Remove id) = byClock st id noFaults
+ofClocks st (clocks.Start id) = byClock st id noFaults
+ofClocks st (clocks.Stop id) = byClock st id noFaults
+ofClocks st (clocks.Reset id) = byClock st id noFaults
+ofClocks st (clocks.SetSpeed id v w) = byClock st id (setFaultsOn (clockIn st id) v w)
+ofClocks st (clocks.Time id) = byClock st id noFaults
+ofClocks st (clocks.Ticking id) = byClock st id noFaults
+ofClocks st (clocks.Speed id) = byClock st id noFaults
 
 abbrev pub ofModulators : Station → ModulatorCommand → Conditions
 ofModulators st (modulators.AddTweener x) = ofAdd (floatFaults x) (keysOf ofModulator st)
 ofModulators st (modulators.AddLfo b) = ofAdd (builderFaults b) (keysOf ofModulator st)
-ofModulators st (modulators.Remove id) = ofId (noModulator st id) noFaults
-ofModulators st (modulators.SetTweener id x w) = ofId (noneOf isTweener st id) (tweenerFaults x w)
-ofModulators st (modulators.SetParameter id p v w) = ofId (noneOf isLfo st id) (bothFaults (floatValueFaults v) (tweenFaults w))
-ofModulators st (modulators.SetWaveform id w) = ofId (noneOf isLfo st id) (waveFaults w)
-ofModulators st (modulators.SetPhase id x) = ofId (noneOf isLfo st id) (floatFaults x)
-ofModulators st (modulators.Value id) = ofId (noModulator st id) noFaults
+ofModulators st (modulators.Remove id) = byModulator st id noFaults
+ofModulators st (modulators.SetTweener id x w) = byKind isTweener st id (tweenerFaults x w)
+ofModulators st (modulators.SetParameter id p v w) = byKind isLfo st id (bothFaults (floatValueFaults v) (tweenFaults w))
+ofModulators st (modulators.SetWaveform id w) = byKind isLfo st id (waveFaults w)
+ofModulators st (modulators.SetPhase id x) = byKind isLfo st id (floatFaults x)
+ofModulators st (modulators.Value id) = byModulator st id noFaults
 
 abbrev pub ofFrame : Station → Float → Conditions
 ofFrame st dt = ofTurn (dtFaults dt) (inFrame tooFarIn st dt) (inFrame ticksFullIn st dt)
@@ -153,7 +170,7 @@ ofCall st (frame dt) = ofFrame st dt
 
 -- BUFFER: RULES, short-buffer
 abbrev pub ofReport : Station → ClockId → List ℕ → Conditions
-ofReport st id out = judge.ofReport (noClock st id) (ltb (length out) 96)
+ofReport st id out = judge.ofReport (goneIn (keysOf ofClock st) (id .slot) (id .generation)) (neverIn (keysOf ofClock st) (id .slot) (id .generation)) (ltb (length out) 96)
 
 -- ---- a time that is moved
 

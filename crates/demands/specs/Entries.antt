@@ -7,6 +7,7 @@ use mathlib.Core.List.{List}
 use lib.ListN.{length}
 use lib.Dec.{eqb}
 use lib.Ieee.{Float}
+use Rattle.ids.specs.declared.Key.{Key}
 use Rattle.judge.specs.Answer.{Answer, isRefused, numberTold}
 use Rattle.times.specs.Times.{tryAddTicksOf, trySubTicksOf, tryAddFloatOf, trySubFloatOf}
 use Rattle.values.specs.declared.clock_speed.ClockSpeed.{ClockSpeed}
@@ -36,11 +37,15 @@ pub record Lent : Type 0 where
   pub speed : SpeedParameter
   pub buffer : List ℕ
 
--- All that is asked of a state: no key of a table is without an entry. A table is an array of 16 keys and an array of
--- 16 entries, so every station that a caller can hold is so; nothing else of it matters.
+-- All that is asked of a state: a table has 16 keys at most, and none of them is without an entry. A table is an array
+-- of 16 keys and an array of 16 entries, so every station that a caller can hold is so; nothing else of it matters.
+pub record Sized {A : Type 0} (ks : List Key) (es : List A) : Type 0 where
+  pub most : length ks ≤ 16
+  pub filled : length ks ≤ length es
+
 pub record Tables (st : Station) : Type 0 where
-  pub clocks : length (st .clocks .keys) ≤ length (st .clocks .clocks)
-  pub modulators : length (st .modulators .keys) ≤ length (st .modulators .slots)
+  pub clocks : Sized (st .clocks .keys) (st .clocks .clocks)
+  pub modulators : Sized (st .modulators .keys) (st .modulators .slots)
 
 -- a time moved by whole ticks or by a double
 pub data Shift : Type 0 where

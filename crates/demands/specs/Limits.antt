@@ -1,6 +1,6 @@
 -- The limits of the refusals of arguments, and of TICKS_FULL and BEFORE_ZERO for a time that is moved, as one table
 -- with one claim: each just inside and just outside, at each argument that takes it, the other arguments being well.
--- 01, "Refusal numbers" and "Speeds". RULES, refusal-numbers. Assumes nothing.
+-- The limits of ids are in `IdLimits`. 01, "Refusal numbers" and "Speeds". RULES, refusal-numbers. Assumes nothing.
 use Prim.Native.Nat.{ℕ}
 use mathlib.Core.Bool.{Bool, true, false}
 use mathlib.Core.List.{List, [], _∷_, _++_}
@@ -54,11 +54,11 @@ pub record Limit : Type 0 where
   pub given : ℕ
   pub said : ℕ
 
-pub all : List Limit → Bool
+unfoldable pub all : List Limit → Bool
 all [] = true
 all (r ∷ rs) = elim (eqb (r .given) (r .said)) [ true ↦ all rs | false ↦ false ]
 
-abbrev limit : ℕ → ℕ → Limit
+abbrev pub limit : ℕ → ℕ → Limit
 limit n e = record { given = n; said = e }
 
 abbrev double : ℕ → Float
@@ -66,7 +66,7 @@ double b = ofBits binary64 b
 
 -- ---- what is well, for the other arguments
 
-abbrev one : Float
+abbrev pub one : Float
 one = double 0x3ff0_0000_0000_0000
 
 abbrev half : Float
@@ -76,13 +76,13 @@ abbrev three : Float
 three = double 0x4008_0000_0000_0000
 
 -- a NaN, and an infinity
-abbrev aNan : Float
+abbrev pub aNan : Float
 aNan = double 0x7ff8_0000_0000_0000
 
 abbrev infinite : Float
 infinite = double 0x7ff0_0000_0000_0000
 
-abbrev perSecond : ClockSpeed
+abbrev pub perSecond : ClockSpeed
 perSecond = TicksPerSecond one
 
 abbrev first : ClockId
@@ -105,10 +105,10 @@ middle = timeAt first 1_099_511_627_776 (double 0)
 abbrev nearly : ClockTime
 nearly = timeAt first 1_099_511_627_775 (double 0x3fef_ffff_ffff_ffff)
 
-abbrev tweenOf : StartTime → ℕ → Easing → Tween
+abbrev pub tweenOf : StartTime → ℕ → Easing → Tween
 tweenOf s n e = record { «start_time» = s; duration = n; easing = e }
 
-abbrev tween : Tween
+abbrev pub tween : Tween
 tween = tweenOf Immediate 0 Linear
 
 abbrev floatMap : Float → Float → Float → Float → Easing → FloatMapping
@@ -120,10 +120,10 @@ mapping = floatMap one three one three Linear
 abbrev speedMap : Float → Float → ClockSpeed → ClockSpeed → Easing → SpeedMapping
 speedMap a b c d e = record { «in_lo» = a; «in_hi» = b; «out_lo» = c; «out_hi» = d; easing = e }
 
-abbrev fixed : FloatValue
+abbrev pub fixed : FloatValue
 fixed = toFloat.Fixed one
 
-abbrev lfo : Waveform → FloatValue → FloatValue → FloatValue → Float → LfoBuilder
+abbrev pub lfo : Waveform → FloatValue → FloatValue → FloatValue → Float → LfoBuilder
 lfo w f a o p = record { waveform = w; frequency = f; amplitude = a; offset = o; «starting_phase» = p }
 
 -- a parameter at this speed

@@ -12,9 +12,9 @@ use Rattle.judge.specs.Judge.{Conditions, ofArguments, noFaults, Judged, inOrde
 abbrev pub order : List ℕ
 order = map (λ j. j .number) (inOrder (ofArguments noFaults))
 
--- The same in digits, written from 01 and not from `judge`: so the names, the numbers and the list cannot all be wrong
--- together.
-pub counted : order ≡ 7 ∷ 1 ∷ 2 ∷ 3 ∷ 4 ∷ 5 ∷ 6 ∷ 8 ∷ 9 ∷ 10 ∷ 11 ∷ 12 ∷ []
+-- The same in digits, written from 01 and 02 and not from `judge`: so the names, the numbers and the list cannot all be
+-- wrong together.
+pub counted : order ≡ 7 ∷ 15 ∷ 1 ∷ 2 ∷ 3 ∷ 4 ∷ 5 ∷ 6 ∷ 8 ∷ 9 ∷ 10 ∷ 11 ∷ 12 ∷ []
 counted = refl
 
 -- whether the condition of a number holds

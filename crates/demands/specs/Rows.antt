@@ -30,7 +30,7 @@ use Rattle.parameter.specs.Courses.{stepOf}
 use Rattle.parameter.specs.FloatParameters.{newOf, trySetOf, tryUpdateOf, updateOf, tweenedOf}
 use Rattle.parameter.specs.SpeedParameters as speeds
 use Rattle.parameter.specs.declared.float.FloatParameter.{FloatParameter}
-use Rattle.ids.specs.Keys.{freeOf, livesIn, findOf}
+use Rattle.ids.specs.Keys.{freeOf, livesIn, standingOf, findOf}
 use Rattle.ids.specs.Lists.{readAt}
 use Rattle.ticks.specs.WholeTicks.{roomFor, takenOf}
 use Rattle.clock.specs.OneClock.{tickOf, updateClockOf}
@@ -204,5 +204,5 @@ rows =
 
 -- the one claim
 pub worked : T (all rows)
-unfolding all rows numberOf firstFault scaled add sub mul div rem lt le eq toUnsigned ofInt nanosOf secondsOf applyOf tweenValueOf stepOf tweenedOf updateOf tryUpdateOf trySetOf speeds.updateOf speeds.tweenedOf freeOf livesIn findOf readAt roomFor takenOf tickOf updateClockOf addClockOf tickOnOf clockTimeOf runClockOf infoIn turnClock modulatorTurns modulatorsTurned clockTurns clocksTurned frameOf afterAll
+unfolding all rows numberOf firstFault scaled add sub mul div rem lt le eq toUnsigned ofInt nanosOf secondsOf applyOf tweenValueOf stepOf tweenedOf updateOf tryUpdateOf trySetOf speeds.updateOf speeds.tweenedOf freeOf livesIn standingOf findOf readAt roomFor takenOf tickOf updateClockOf addClockOf tickOnOf clockTimeOf runClockOf infoIn turnClock modulatorTurns modulatorsTurned clockTurns clocksTurned frameOf afterAll
 worked = tt

@@ -10,16 +10,16 @@ use lib.Dec.{eqb}
 use borrow.Author.Tests.{eqb-true, ne-eqb}
 use Rattle.judge.specs.Judge.{firstFault, numberOf, decided}
 use Rattle.judge.specs.Answer.{Answer, accepted, refused, isRefused}
-use Rattle.judge.specs.Numbers.{«NO_SUCH», «NO_ROOM»}
+use Rattle.judge.specs.Numbers.{«NO_ROOM», «NEVER_ISSUED»}
 use Rattle.judge.specs.declared.Faults.{Faults}
 use Rattle.judge.proofs.Judged.{by-arguments, behind-them}
 use Rattle.ids.specs.Lists.{readAt}
-use Rattle.ids.specs.Keys.{Place, place, freeOf, livesIn, noSuch, findOf, foundAs, placeOf, placedAs, leftAt}
+use Rattle.ids.specs.Keys.{Place, place, freeOf, livesIn, foundAs, placeOf, placedAs, leftAt}
 use Rattle.ids.specs.Tables.{Table, Added, onEntry, whereIs, refusedCall, onFound, changed, freed, refusedAdd, addedIn, addedTo}
 use Rattle.ids.specs.declared.Key.{Key}
 use Rattle.ids.specs.declared.Found.{Found}
 use Rattle.ids.specs.declared.Placed.{Placed}
-use Rattle.ids.proofs.Places.{read-at, lives-inside, room-number}
+use Rattle.ids.proofs.Places.{read-at, lives-inside, found-case, room-number}
 
 read-map : {A R S : Type 0} (h : R → S) (none : R) (f : A → R) (l : List A) (i : ℕ) → h (readAt none f l i) ≡ readAt (h none) (λ x. h (f x)) l i
 unfolding readAt
@@ -29,7 +29,7 @@ read-map h none f (x ∷ l) (suc i) = read-map h none f l i
 
 pub entry-map : {E R S : Type 0} (h : R → S) (none : ℕ → R) (es : List E) (w : Answer ℕ) (f : ℕ → E → R) → h (onEntry none es w f) ≡ onEntry (λ n. h (none n)) es w (λ i e. h (f i e))
 entry-map h none es (refused n) f = refl
-entry-map h none es (accepted i) f = read-map h (none «NO_SUCH») (f i) es i
+entry-map h none es (accepted i) f = read-map h (none «NEVER_ISSUED») (f i) es i
 
 -- ---- what the code stores
 
@@ -46,8 +46,7 @@ module _ {T E I D : Type 0} (k : Table T E I D) (t : T) (id : I) (whole : k .tab
       → y ≡ cond (eqb m 0) (new (getD (k .entriesOf t) (r .slot) d)) (getD (k .entriesOf t) (r .slot) d)
       → k .doneAs m (k .tableOf (k .keysOf t) (set (k .entriesOf t) (r .slot) y))
       ≡ onFound k t (whereIs k t id) (λ i e. decided (n e) (changed k t i (new e)) (refusedCall k t))
-  unfolding findOf
-  stores d n new {r} {m} {y} is num val = go (livesIn (k .keysOf t) (k .slotIn id) (k .generationIn id)) refl is
+  stores d n new {r} {m} {y} is num val = found-case (k .keysOf t) (k .slotIn id) (k .generationIn id) Stored kept put is
     where
       s : ℕ
       s = k .slotIn id
@@ -63,20 +62,23 @@ module _ {T E I D : Type 0} (k : Table T E I D) (t : T) (id : I) (whole : k .tab
       by true e h p q = rw (q, p, e, eqb-true (n (getD l s d)) 0 e)
       by false e h p q = rw (q, p, e, back s)
 
-      go : (b : Bool) → livesIn (k .keysOf t) s (k .generationIn id) ≡ b → r ≡ foundAs (cond b (accepted s) noSuch)
-          → k .doneAs m (k .tableOf (k .keysOf t) (set l (r .slot) y)) ≡ onFound k t (cond b (accepted s) noSuch) (λ i e. decided (n e) (changed k t i (new e)) (refusedCall k t))
-      go true lives e =
-          rw (e, read-at (refusedCall k t «NO_SUCH») (λ x. decided (n x) (changed k t s (new x)) (refusedCall k t)) l s d (omega (arith, inside lives)))
+      Stored : Answer ℕ → Type 0
+      Stored w = r ≡ foundAs w → k .doneAs m (k .tableOf (k .keysOf t) (set l (r .slot) y)) ≡ onFound k t w (λ i e. decided (n e) (changed k t i (new e)) (refusedCall k t))
+
+      kept : (c : ℕ) → (c ≡ 0 → ⊥) → livesIn (k .keysOf t) s (k .generationIn id) ≡ false → Stored (refused c)
+      kept c z lives e = rw e (rw (rw e at val, rw e at num) (rw (ne-eqb c 0 z, ne-eqb c 0 z, back 0)))
+
+      put : livesIn (k .keysOf t) s (k .generationIn id) ≡ true → Stored (accepted s)
+      put lives e =
+          rw (e, read-at (refusedCall k t «NEVER_ISSUED») (λ x. decided (n x) (changed k t s (new x)) (refusedCall k t)) l s d (omega (arith, inside lives)))
           (by (eqb (n (getD l s d)) 0) refl (inside lives) (rw e at num) (rw e at val))
-      go false lives e = rw e (rw (rw e at val, rw e at num) (rw (back 0)))
 
   -- y is the key that a removal stores
   pub frees :
       (d : Key) (x : E) (g : ℕ) {r : Found} {y : Key} → r ≡ foundAs (whereIs k t id)
       → y ≡ cond (eqb (r .refused) 0) (leftAt g) (getD (k .keysOf t) (r .slot) d)
       → k .doneAs (r .refused) (k .tableOf (set (k .keysOf t) (r .slot) y) (k .entriesOf t)) ≡ onFound k t (whereIs k t id) (λ i e. freed k t i g)
-  unfolding findOf
-  frees d x g {r} {y} is val = go (livesIn (k .keysOf t) (k .slotIn id) (k .generationIn id)) refl is
+  frees d x g {r} {y} is val = found-case (k .keysOf t) (k .slotIn id) (k .generationIn id) Freed kept put is
     where
       s : ℕ
       s = k .slotIn id
@@ -87,12 +89,16 @@ module _ {T E I D : Type 0} (k : Table T E I D) (t : T) (id : I) (whole : k .tab
       back : (i : ℕ) → k .tableOf (set l i (getD l i d)) (k .entriesOf t) ≡ t
       back i = rw (set-getD l i d) whole
 
-      go : (b : Bool) → livesIn l s (k .generationIn id) ≡ b → r ≡ foundAs (cond b (accepted s) noSuch)
-          → k .doneAs (r .refused) (k .tableOf (set l (r .slot) y) (k .entriesOf t)) ≡ onFound k t (cond b (accepted s) noSuch) (λ i e. freed k t i g)
-      go true lives e =
-          rw (e, read-at (refusedCall k t «NO_SUCH») (λ (z : E). freed k t s g) (k .entriesOf t) s x (omega (arith, inside lives)))
+      Freed : Answer ℕ → Type 0
+      Freed w = r ≡ foundAs w → k .doneAs (r .refused) (k .tableOf (set l (r .slot) y) (k .entriesOf t)) ≡ onFound k t w (λ i e. freed k t i g)
+
+      kept : (c : ℕ) → (c ≡ 0 → ⊥) → livesIn l s (k .generationIn id) ≡ false → Freed (refused c)
+      kept c z lives e = rw e (rw (rw e at val) (rw (ne-eqb c 0 z, back 0)))
+
+      put : livesIn l s (k .generationIn id) ≡ true → Freed (accepted s)
+      put lives e =
+          rw (e, read-at (refusedCall k t «NEVER_ISSUED») (λ (z : E). freed k t s g) (k .entriesOf t) s x (omega (arith, inside lives)))
           (rw (rw e at val))
-      go false lives e = rw e (rw (rw e at val) (rw (back 0)))
 
 -- An add stores once too: a key and an entry into the slot of its place p, or what stands in the first slot.
 module _ {T E I D : Type 0} (k : Table T E I D) (t : T) (whole : k .tableOf (k .keysOf t) (k .entriesOf t) ≡ t) where

@@ -28,11 +28,11 @@ split {P} j i s o = go (ℕ-discrete j i)
     go (no n) = o n
 
 -- an id that lives is that of its slot
-record Living (ks : List Key) (i g : ℕ) : Type 0 where
-  occupied : usedAt ks i ≡ true
-  agrees : generationAt ks i ≡ g
+pub record Living (ks : List Key) (i g : ℕ) : Type 0 where
+  pub occupied : usedAt ks i ≡ true
+  pub agrees : generationAt ks i ≡ g
 
-living : (ks : List Key) (i g : ℕ) → livesIn ks i g ≡ true → Living ks i g
+pub living : (ks : List Key) (i g : ℕ) → livesIn ks i g ≡ true → Living ks i g
 living ks i g l = go (usedAt ks i) refl (rw lives-parts at l)
   where
     go : (u : Bool) → usedAt ks i ≡ u → (u && eqb (generationAt ks i) g) ≡ true → Living ks i g
@@ -61,7 +61,7 @@ module _ (ks : List Key) (i : ℕ) (k : Key) where
     used-there : usedAt (set ks i k) j ≡ usedAt ks j
     used-there = read-set-other false (λ (k : Key). k .used) ks i j k n
 
-    generation-there : generationAt (set ks i k) j ≡ generationAt ks j
+    pub generation-there : generationAt (set ks i k) j ≡ generationAt ks j
     generation-there = read-set-other 0 (λ (k : Key). k .generation) ks i j k n
 
     lives-there : (h : ℕ) → livesIn (set ks i k) j h ≡ livesIn ks j h
@@ -76,7 +76,7 @@ module _ (ks : List Key) (i g : ℕ) (e : freeOf 0 ks ≡ roomAt i g) where
   own-used : usedAt (set ks i (takenAt g)) i ≡ true
   own-used = used-here ks i (takenAt g) (own .inside)
 
-  own-generation : generationAt (set ks i (takenAt g)) i ≡ g
+  pub own-generation : generationAt (set ks i (takenAt g)) i ≡ g
   own-generation = generation-here ks i (takenAt g) (own .inside)
 
   -- the generation after the slot's last: RULES, generation
@@ -162,7 +162,7 @@ module _ (n : ℕ) where
   start-empty : (i : ℕ) → usedAt (replicate n (leftAt 0)) i ≡ false
   start-empty i = read-replicate false (λ (k : Key). k .used) n i (leftAt 0) refl
 
-  start-zero : (i : ℕ) → generationAt (replicate n (leftAt 0)) i ≡ 0
+  pub start-zero : (i : ℕ) → generationAt (replicate n (leftAt 0)) i ≡ 0
   start-zero i = read-replicate 0 (λ (k : Key). k .generation) n i (leftAt 0) refl
 
   pub start-numbered : Numbered (replicate n (leftAt 0))

@@ -3,15 +3,16 @@
 use Prim.Native.Nat.{ℕ, zero, suc, _+_, _<_, _≤_}
 use native.Mathlib.Nat.{not-suc-le-zero, le-of-suc-le-suc}
 use native.Mathlib.Omega.{arith}
-use mathlib.Core.Path.{_≡_, refl, sym, ap}
+use mathlib.Core.Path.{_≡_, refl, sym, ap, subst}
 use mathlib.Core.Bool.{Bool, true, false, not, _&&_, cond, false≢true}
 use mathlib.Core.List.{List, [], _∷_}
 use lib.ListN.{length, getD, set, replicate}
 use lib.Dec.{ltb, eqb}
-use borrow.Author.Tests.{ltb-true}
+use borrow.Author.Tests.{ltb-true, ne-eqb}
 use Rattle.judge.specs.Answer.{Answer, accepted, refused}
-use Rattle.judge.specs.Numbers.{«NO_ROOM», «NO_SUCH»}
-use Rattle.ids.specs.Keys.{isFree, Place, place, roomAt, noRoom, freeOf, livesIn, noSuch, findOf, foundAs, placeOf, placedAs, usedAt, generationAt}
+use Rattle.judge.specs.Judge.{decided}
+use Rattle.judge.specs.Numbers.{«NO_ROOM»}
+use Rattle.ids.specs.Keys.{isFree, Place, place, roomAt, noRoom, freeOf, livesIn, wasGiven, gone, neverIssued, numberFor, absentOf, standingOf, findOf, foundAs, placeOf, placedAs, usedAt, generationAt}
 use Rattle.ids.specs.Lists.{readAt}
 use Rattle.ids.specs.declared.Key.{Key}
 use Rattle.ids.specs.declared.Found.{Found}
@@ -66,19 +67,49 @@ lives-inside [] i g e = absurd (false≢true e)
 lives-inside (k ∷ ks) zero g e = omega arith
 lives-inside (k ∷ ks) (suc i) g e = let h = lives-inside ks i g e in omega arith
 
+-- the number of an id that does not live is never 0
+pub absent-number : (last g : ℕ) → numberFor (absentOf last g) ≡ 0 → ⊥
+absent-number last g = go (wasGiven last g)
+  where
+    go : (b : Bool) → numberFor (cond b gone neverIssued) ≡ 0 → ⊥
+    go true z = omega arith
+    go false z = omega arith
+
+module _ (ks : List Key) (i g : ℕ) where
+  -- the number by which an id is refused that does not live
+  abbrev pub missingNumber : ℕ
+  missingNumber = numberFor (absentOf (generationAt ks i) g)
+
+  pub find-living : livesIn ks i g ≡ true → findOf ks i g ≡ accepted i
+  unfolding findOf standingOf
+  find-living l = rw l
+
+  pub find-missing : livesIn ks i g ≡ false → findOf ks i g ≡ refused missingNumber
+  unfolding findOf standingOf
+  find-missing l = rw (l, ne-eqb missingNumber 0 (absent-number (generationAt ks i) g))
+
+  -- a lookup refuses, since the id does not live, or gives the slot, in which the id lives
+  pub found-case :
+      (P : Answer ℕ → Type 0) → ((n : ℕ) → (n ≡ 0 → ⊥) → livesIn ks i g ≡ false → P (refused n)) → (livesIn ks i g ≡ true → P (accepted i))
+      → P (findOf ks i g)
+  found-case P m h = go (livesIn ks i g) refl
+    where
+      go : (b : Bool) → livesIn ks i g ≡ b → P (findOf ks i g)
+      go true l = subst P (sym (find-living l)) (h l)
+      go false l = subst P (sym (find-missing l)) (m missingNumber (absent-number (generationAt ks i) g) l)
+
 -- what is found is the slot asked for, and the id lives in it
 pub record Finds (ks : List Key) (slot g i : ℕ) : Type 0 where
   pub same : i ≡ slot
   pub alive : livesIn ks slot g ≡ true
 
-finds-step : (ks : List Key) (slot g i : ℕ) (b : Bool) → livesIn ks slot g ≡ b → cond b (accepted slot) noSuch ≡ accepted i → Finds ks slot g i
-finds-step ks slot g i true l e = record { same = cc; alive = l }
-finds-step ks slot g i false l e = let n : _≡_ {A = ℕ} 0 1 = cc in absurd (omega arith)
-
 module _ (ks : List Key) (slot g i : ℕ) (e : findOf ks slot g ≡ accepted i) where
   pub finds : Finds ks slot g i
-  unfolding findOf
-  finds = finds-step ks slot g i (livesIn ks slot g) refl e
+  finds =
+      found-case ks slot g (λ w. w ≡ accepted i → Finds ks slot g i)
+      (λ n z l e. let z : _≡_ {A = ℕ} 0 1 = cc in absurd (omega arith))
+      (λ l e. record { same = cc; alive = l })
+      e
 
   pub found-slot : i ≡ slot
   found-slot = finds .same
@@ -197,28 +228,25 @@ pub record Living (ks : List Key) (slot g : ℕ) (r : Found) : Type 0 where
 module _ (ks : List Key) (slot g : ℕ) (n : length ks ≡ 16) {r : Found} (e : r ≡ foundAs (findOf ks slot g)) where
   -- the slot is one of the 16, whether the id lives or not
   pub some-slot : r .slot < 16
-  unfolding findOf
-  some-slot = go (livesIn ks slot g) (lives-inside ks slot g) e
-    where
-      go : (b : Bool) → (b ≡ true → slot < length ks) → r ≡ foundAs (cond b (accepted slot) noSuch) → r .slot < 16
-      go true h e = rw e (omega (arith, h refl))
-      go false h e = rw e (omega arith)
+  some-slot =
+      found-case ks slot g (λ w. r ≡ foundAs w → r .slot < 16)
+      (λ n z l e. rw e (omega arith))
+      (λ l e. rw e (omega (arith, lives-inside ks slot g l)))
+      e
 
   pub living : r .refused ≡ 0 → Living ks slot g r
-  unfolding findOf
-  living z = go (livesIn ks slot g) refl (lives-inside ks slot g) e
-    where
-      go : (b : Bool) → livesIn ks slot g ≡ b → (b ≡ true → slot < length ks) → r ≡ foundAs (cond b (accepted slot) noSuch) → Living ks slot g r
-      go true l h e = record { is = rw l; here = rw e; inside = omega (arith, h refl) }
-      go false l h e = let y : «NO_SUCH» ≡ 0 = rw e at z in absurd (omega arith)
+  living z =
+      found-case ks slot g (λ w. r ≡ foundAs w → Living ks slot g r)
+      (λ n y l e. absurd (y (rw e at z)))
+      (λ l e. record { is = find-living ks slot g l; here = rw e; inside = omega (arith, lives-inside ks slot g l) })
+      e
 
   pub missing : (r .refused ≡ 0 → ⊥) → findOf ks slot g ≡ refused (r .refused)
-  unfolding findOf
-  missing z = go (livesIn ks slot g) refl e
-    where
-      go : (b : Bool) → livesIn ks slot g ≡ b → r ≡ foundAs (cond b (accepted slot) noSuch) → findOf ks slot g ≡ refused (r .refused)
-      go true l e = absurd (z (rw e))
-      go false l e = rw (l, e)
+  missing z =
+      found-case ks slot g (λ w. r ≡ foundAs w → w ≡ refused (r .refused))
+      (λ n y l e. rw e)
+      (λ l e. absurd (z (rw e)))
+      e
 
   -- what the code reads beside the keys is what stands in the id's slot
   pub living-read : r .refused ≡ 0 → {A B : Type 0} (none : B) (f : A → B) (l : List A) (d : A) → length l ≡ 16 → f (getD l (r .slot) d) ≡ readAt none f l slot

@@ -6,10 +6,10 @@ use mathlib.Core.Path.{_≡_}
 use mathlib.Core.Logic.{_⊎_}
 use mathlib.Core.List.{List, [], _∷_}
 use lib.ListN.{getD, set}
-use lib.Dec.{ltb, eqb}
+use lib.Dec.{ltb, eqb, leb}
 use Rattle.judge.specs.Answer.{Answer, accepted, refused}
 use Rattle.judge.specs.Judge.{decided}
-use Rattle.judge.specs.Numbers.{«NO_SUCH», «NO_ROOM»}
+use Rattle.judge.specs.Numbers.{«GONE», «NO_ROOM», «NEVER_ISSUED»}
 use Rattle.ids.specs.Lists.{readAt}
 use Rattle.ids.specs.declared.Key.{Key}
 use Rattle.ids.specs.declared.Room.{Room}
@@ -48,13 +48,36 @@ livesIn [] i g = false
 livesIn (k ∷ ks) zero g = k .used && eqb (k .generation) g
 livesIn (k ∷ ks) (suc i) g = livesIn ks i g
 
--- under the id nothing lives: RULES, no-such
-abbrev pub noSuch : Answer ℕ
-noSuch = refused «NO_SUCH»
+-- the last generation that a slot gave, 0 where it gave none and past the table's end: RULES, slots
+abbrev pub generationAt : List Key → ℕ → ℕ
+generationAt = readAt 0 (λ k. k .generation)
+
+-- a slot that stands at `last` has given the generations from 1 to it: RULES, generation
+abbrev pub wasGiven : ℕ → ℕ → Bool
+wasGiven last g = leb 1 g && leb g last
+
+-- what an id is to a table: RULES, living-id, gone and never-issued
+pub data Standing : Type 0 where
+  living : Standing
+  gone : Standing
+  neverIssued : Standing
+
+-- of an id that does not live
+abbrev pub absentOf : ℕ → ℕ → Standing
+absentOf last g = cond (wasGiven last g) gone neverIssued
+
+unfoldable pub standingOf : List Key → ℕ → ℕ → Standing
+standingOf ks i g = cond (livesIn ks i g) living (absentOf (generationAt ks i) g)
+
+-- the number that a call on the id is given, 0 where it lives: RULES, gone, never-issued and ok
+abbrev pub numberFor : Standing → ℕ
+numberFor living = 0
+numberFor gone = «GONE»
+numberFor neverIssued = «NEVER_ISSUED»
 
 -- where an id lives, or the number that a call on it is given: RULES, id
 unfoldable pub findOf : List Key → ℕ → ℕ → Answer ℕ
-findOf ks slot g = cond (livesIn ks slot g) (accepted slot) noSuch
+findOf ks i g = decided (numberFor (standingOf ks i g)) (accepted i) refused
 
 -- a lookup's answer with a slot in each case: the first one where the id lives in none
 abbrev pub foundAs : Answer ℕ → Found
@@ -86,13 +109,14 @@ leftOf n k g = decided n (leftAt g) (λ _. k)
 abbrev pub usedAt : List Key → ℕ → Bool
 usedAt = readAt false (λ k. k .used)
 
--- the last generation that a slot gave, 0 where it gave none and past the table's end: RULES, slots
-abbrev pub generationAt : List Key → ℕ → ℕ
-generationAt = readAt 0 (λ k. k .generation)
-
 -- a slot that no add takes, in use or retired: RULES, retired-slot
 abbrev pub Closed : List Key → ℕ → Type 0
 Closed ks i = (usedAt ks i ≡ true) ⊎ (4294967295 ≤ generationAt ks i)
+
+-- an id that its slot has given out, as its generation tells: RULES, generation
+pub record Given (ks : List Key) (i g : ℕ) : Type 0 where
+  pub least : 1 ≤ g
+  pub most : g ≤ generationAt ks i
 
 -- an id that was given, as its slot's generation tells, and does not live; generation 0, which none is given, counts
 -- too

@@ -5,7 +5,7 @@ use mathlib.Core.List.{List}
 use lib.ListN.{set}
 use Rattle.judge.specs.Answer.{Answer, accepted, refused, isRefused}
 use Rattle.judge.specs.Judge.{ofAdd, numberOf, decided}
-use Rattle.judge.specs.Numbers.{«NO_SUCH»}
+use Rattle.judge.specs.Numbers.{«NEVER_ISSUED»}
 use Rattle.judge.specs.declared.Faults.{Faults}
 use Rattle.ids.specs.Keys.{Place, place, freeOf, findOf, takenAt, leftAt}
 use Rattle.ids.specs.Lists.{readAt}
@@ -27,13 +27,14 @@ pub record Added (T I : Type 0) : Type 0 where
   pub answer : Answer I
   pub table : T
 
--- what f makes of the entry in the slot that was found; `none` of the number, where none was
+-- what f makes of the entry in the slot that was found; `none` of the number, where none was. A slot past the last
+-- entry was never given
 abbrev pub onEntry : {E R : Type 0} → (ℕ → R) → List E → Answer ℕ → (ℕ → E → R) → R
 onEntry none es (refused n) f = none n
-onEntry none es (accepted i) f = readAt (none «NO_SUCH») (f i) es i
+onEntry none es (accepted i) f = readAt (none «NEVER_ISSUED») (f i) es i
 
 module _ {T E I D : Type 0} (k : Table T E I D) (t : T) where
-  -- where the id lives, or the number that a call on it is given: RULES, living-id and no-such
+  -- where the id lives, or the number that a call on it is given: RULES, living-id, gone and never-issued
   abbrev pub whereIs : I → Answer ℕ
   whereIs id = findOf (k .keysOf t) (k .slotIn id) (k .generationIn id)
 

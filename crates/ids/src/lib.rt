@@ -3,9 +3,10 @@
 
 ghost use mathlib.Core.Path.{_≡_};
 ghost use Rattle.judge.specs.Answer.{refused, numberTold};
-ghost use Rattle.ids.specs.Keys.{toldRoom, freeOf, foundAs, findOf, placedAs, placeOf, leftOf};
+ghost use Rattle.ids.specs.Keys.{toldRoom, freeOf, absentOf, numberFor, foundAs, findOf, placedAs, placeOf, leftOf};
+use judge::GONE;
+use judge::NEVER_ISSUED;
 use judge::NO_ROOM;
-use judge::NO_SUCH;
 
 // The last generation. A slot that is freed at it is retired.
 const LAST: u32 = 4294967295;
@@ -22,8 +23,8 @@ pub enum Room {
     Refused(u32),
 }
 
-// The slot where an id lives, and 0; or slot 0, and the number that a call on the id is refused with. So there is
-// always a slot to read, and what was read can be stored back.
+// The slot where an id lives, and 0; or slot 0, and the number that a call on the id is refused with, GONE or
+// NEVER_ISSUED. So there is always a slot to read, and what was read can be stored back.
 pub struct Found {
     pub refused: u32,
     pub slot: usize,
@@ -53,23 +54,41 @@ pub fn free(keys: [Key; 16]) -> Room
     Room::Refused(NO_ROOM)
 }
 
+// The number of an id that does not live: GONE where its slot, which stands at `last`, has given its generation.
+fn missing(last: u32, generation: u32) -> u32
+    ensures { λ n. ⌜ n ≡ numberFor (absentOf last generation) ⌝ }
+{
+    if generation == 0 {
+        return NEVER_ISSUED;
+    }
+    if generation > last {
+        return NEVER_ISSUED;
+    }
+    GONE
+}
+
+// What an id is to a table. Every call by an id asks it here, and carries the number.
 pub fn find(keys: [Key; 16], slot: u32, generation: u32) -> Found
     ensures { λ r. ⌜ r ≡ foundAs (findOf keys slot generation) ⌝ }
 {
     let i = slot as usize;
-    if i < 16 {
-        let k = keys[i];
-        if k.used {
-            if k.generation == generation {
-                return Found {
-                    refused: 0,
-                    slot: i,
-                };
-            }
+    if i >= 16 {
+        return Found {
+            refused: NEVER_ISSUED,
+            slot: 0,
+        };
+    }
+    let k = keys[i];
+    if k.used {
+        if k.generation == generation {
+            return Found {
+                refused: 0,
+                slot: i,
+            };
         }
     }
     Found {
-        refused: NO_SUCH,
+        refused: missing(k.generation, generation),
         slot: 0,
     }
 }

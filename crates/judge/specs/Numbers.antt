@@ -20,8 +20,8 @@ abbrev pub «BAD_MAP» : ℕ
 abbrev pub «BAD_TIME» : ℕ
 «BAD_TIME» = 6
 
-abbrev pub «NO_SUCH» : ℕ
-«NO_SUCH» = 7
+abbrev pub «GONE» : ℕ
+«GONE» = 7
 
 abbrev pub «NO_ROOM» : ℕ
 «NO_ROOM» = 8
@@ -45,3 +45,8 @@ abbrev pub «TRACE» : ℕ
 
 abbrev pub «WRONG_ID» : ℕ
 «WRONG_ID» = 14
+
+-- ---- of an id that does not live, beside GONE: 02, dead or never ours
+
+abbrev pub «NEVER_ISSUED» : ℕ
+«NEVER_ISSUED» = 15

@@ -4,22 +4,26 @@
 use Prim.Native.Nat.{ℕ}
 use native.Mathlib.Omega.{arith}
 use mathlib.Core.Path.{_≡_, refl}
-use mathlib.Core.Bool.{true, false}
+use mathlib.Core.Bool.{Bool, true, false, cond}
 use mathlib.Core.List.{List, [], _∷_}
 use lib.ListN.{set}
+use lib.Dec.{eqb}
 use lib.Ieee.{Float}
+use borrow.Author.Tests.{eqb-true}
 use Rattle.ids.specs.Keys.{roomAt, freeOf, takenAt, Spent, Numbered, Later, same, added, removed}
 use Rattle.ids.specs.Tables.{freed, onFound, refusedCall}
 use Rattle.ids.specs.declared.Key.{Key}
 use Rattle.judge.specs.Answer.{numberTold}
-use Rattle.judge.specs.Numbers.{«NO_SUCH»}
+use Rattle.judge.specs.Numbers.{«NEVER_ISSUED»}
 use Rattle.ids.proofs.Names as names
+use Rattle.ids.proofs.Places.{found-case}
 use Rattle.times.specs.declared.time.ClockId.{ClockId}
 use Rattle.values.specs.declared.value.ModulatorId.{ModulatorId}
 use Rattle.clock_table.specs.ClockTables as clocks
 use Rattle.clock_table.specs.declared.ClockDone.{ClockDone}
 use Rattle.modulator_table.specs.ModulatorTables as modulators
 use Rattle.modulator_table.specs.declared.ModulatorDone.{ModulatorDone}
+use Rattle.commands.specs.Answers.{byNumber}
 use Rattle.commands.specs.ClockCommands as clockRuns
 use Rattle.commands.specs.ClockCommands.{runClockOf}
 use Rattle.commands.specs.ModulatorCommands as modulatorRuns
@@ -28,8 +32,8 @@ use Rattle.commands.specs.declared.clock_command.ClockCommand.the-variants as c
 use Rattle.commands.specs.declared.modulator_command.ModulatorCommand.the-variants as modulatorCommand
 use Rattle.station.specs.Stations.{freshStation}
 use Rattle.station.specs.declared.Station.{Station}
-use Rattle.laws.specs.Calls.{Call, clock, modulator, frame, after, afterAll, Kind, ofClock, ofModulator, keysOf, lives, Told, named, told, callNumber, Target, all}
-use Rattle.laws.proofs.lemmas.Deeds.{Deed, leaves, changes, removes, adds, turns, deed, found-case, read-case}
+use Rattle.laws.specs.Calls.{Call, clock, modulator, frame, after, afterAll, Kind, ofClock, ofModulator, keysOf, lives, Told, refusal, named, done, told, callNumber, Target, all}
+use Rattle.laws.proofs.lemmas.Deeds.{Deed, leaves, changes, removes, adds, turns, deed, read-case}
 
 -- ---- one call
 
@@ -39,9 +43,9 @@ joined (added i g e l) m = added i g e (joined l m)
 joined (removed i g e l) m = removed i g e (joined l m)
 
 -- what an answer with an id says of the keys: they had room there, and the id is in them
-record Took (ks ls : List Key) (i g : ℕ) : Type 0 where
-  room : freeOf 0 ks ≡ roomAt i g
-  keys : ls ≡ set ks i (takenAt g)
+pub record Took (ks ls : List Key) (i g : ℕ) : Type 0 where
+  pub room : freeOf 0 ks ≡ roomAt i g
+  pub keys : ls ≡ set ks i (takenAt g)
 
 module _ {A : Type 0} {k : Kind} {ks : List Key} {es : List A} where
   deed-later : {ls : List Key} {fs : List A} {a : Target} {o : Told} → Deed k ks es a o ls fs → Later ks ls
@@ -74,7 +78,7 @@ module _ (k : Kind) (st : Station) where
   frame-keys dt = deed-turned (deed k st (frame dt)) refl
 
   module _ (c : Call) (i g : ℕ) (e : told st c ≡ named k i g) where
-    took : Took (keysOf k st) (keysOf k (after st c)) i g
+    pub took : Took (keysOf k st) (keysOf k (after st c)) i g
     took = deed-took (deed k st c) i g e
 
     -- the id that an add gives did not live before
@@ -85,38 +89,49 @@ module _ (k : Kind) (st : Station) where
     pub named-lives : lives k (after st c) i g ≡ true
     named-lives = rw (took .keys) (names.add-lives (keysOf k st) i g (took .room))
 
--- an accepted removal ends its id
+-- the number by which a call is done or refused is the one that is told
+by-number : (n : ℕ) → numberTold (byNumber n) ≡ 0 → n ≡ 0
+by-number n = go (eqb n 0) (eqb-true n 0)
+  where
+    go : (b : Bool) → (b ≡ true → n ≡ 0) → numberTold (cond b done (refusal n)) ≡ 0 → n ≡ 0
+    go true h z = h refl
+    go false h z = z
+
+-- an accepted removal ends its id, which lived until then
 module _ (st : Station) where
   pub clock-removed :
-      (id : ClockId) → callNumber st (clock (clockCommand.Remove id)) ≡ 0 → Spent (keysOf ofClock (after st (clock (clockCommand.Remove id)))) (id .slot) (id .generation)
+      (id : ClockId) → callNumber st (clock (clockCommand.Remove id)) ≡ 0
+      → (lives ofClock st (id .slot) (id .generation) ≡ true) × Spent (keysOf ofClock (after st (clock (clockCommand.Remove id)))) (id .slot) (id .generation)
   unfolding runClockOf clocks.removeOf
   clock-removed id =
-      found-case (λ w. Ended (onFound clocks.clockTable (st .clocks) w (λ i c. freed clocks.clockTable (st .clocks) i (id .generation)))) (st .clocks .keys) (id .slot) (id .generation) refused (λ l.
-      read-case Ended (refusedCall clocks.clockTable (st .clocks) «NO_SUCH») (λ c. freed clocks.clockTable (st .clocks) (id .slot) (id .generation)) refused (λ c z.
-      names.remove-own-spent (st .clocks .keys) (id .slot) (id .generation) l)
+      found-case (st .clocks .keys) (id .slot) (id .generation) (λ w. Ended (onFound clocks.clockTable (st .clocks) w (λ i c. freed clocks.clockTable (st .clocks) i (id .generation))))
+      (λ n y l. refused n y) (λ l.
+      read-case Ended (refusedCall clocks.clockTable (st .clocks) «NEVER_ISSUED») (λ c. freed clocks.clockTable (st .clocks) (id .slot) (id .generation)) (refused «NEVER_ISSUED» (λ e. omega arith)) (λ c z.
+      (l, names.remove-own-spent (st .clocks .keys) (id .slot) (id .generation) l))
       (st .clocks .clocks) (id .slot))
     where
       Ended : ClockDone → Type 0
-      Ended r = numberTold (clockRuns.doneAs r .answer) ≡ 0 → Spent (r .table .keys) (id .slot) (id .generation)
+      Ended r = numberTold (clockRuns.doneAs r .answer) ≡ 0 → (lives ofClock st (id .slot) (id .generation) ≡ true) × Spent (r .table .keys) (id .slot) (id .generation)
 
-      refused : Ended (refusedCall clocks.clockTable (st .clocks) «NO_SUCH»)
-      refused z = absurd (omega arith)
+      refused : (n : ℕ) → (n ≡ 0 → ⊥) → Ended (refusedCall clocks.clockTable (st .clocks) n)
+      refused n y z = absurd (y (by-number n z))
 
   pub modulator-removed :
       (id : ModulatorId) → callNumber st (modulator (modulatorCommand.Remove id)) ≡ 0
-      → Spent (keysOf ofModulator (after st (modulator (modulatorCommand.Remove id)))) (id .slot) (id .generation)
+      → (lives ofModulator st (id .slot) (id .generation) ≡ true) × Spent (keysOf ofModulator (after st (modulator (modulatorCommand.Remove id)))) (id .slot) (id .generation)
   unfolding runModulatorOf modulators.removeOf
   modulator-removed id =
-      found-case (λ w. Ended (modulators.onModulator (st .modulators) w (λ i m. freed modulators.modulatorTable (st .modulators) i (id .generation)))) (st .modulators .keys) (id .slot) (id .generation) refused (λ l.
-      read-case Ended (refusedCall modulators.modulatorTable (st .modulators) «NO_SUCH») (λ s. freed modulators.modulatorTable (st .modulators) (id .slot) (id .generation)) refused (λ s z.
-      names.remove-own-spent (st .modulators .keys) (id .slot) (id .generation) l)
+      found-case (st .modulators .keys) (id .slot) (id .generation)
+      (λ w. Ended (modulators.onModulator (st .modulators) w (λ i m. freed modulators.modulatorTable (st .modulators) i (id .generation)))) (λ n y l. refused n y) (λ l.
+      read-case Ended (refusedCall modulators.modulatorTable (st .modulators) «NEVER_ISSUED») (λ s. freed modulators.modulatorTable (st .modulators) (id .slot) (id .generation)) (refused «NEVER_ISSUED» (λ e. omega arith)) (λ s z.
+      (l, names.remove-own-spent (st .modulators .keys) (id .slot) (id .generation) l))
       (st .modulators .slots) (id .slot))
     where
       Ended : ModulatorDone → Type 0
-      Ended r = numberTold (modulatorRuns.doneAs r .answer) ≡ 0 → Spent (r .table .keys) (id .slot) (id .generation)
+      Ended r = numberTold (modulatorRuns.doneAs r .answer) ≡ 0 → (lives ofModulator st (id .slot) (id .generation) ≡ true) × Spent (r .table .keys) (id .slot) (id .generation)
 
-      refused : Ended (refusedCall modulators.modulatorTable (st .modulators) «NO_SUCH»)
-      refused z = absurd (omega arith)
+      refused : (n : ℕ) → (n ≡ 0 → ⊥) → Ended (refusedCall modulators.modulatorTable (st .modulators) n)
+      refused n y z = absurd (y (by-number n z))
 
 -- ---- a run
 

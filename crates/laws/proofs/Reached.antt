@@ -15,6 +15,7 @@ use Rattle.doubles.specs.Doubles.{zeroF}
 use Rattle.ids.specs.Lists.{readAt}
 use Rattle.ids.specs.declared.Key.{Key}
 use Rattle.ids.proofs.Names as names
+use Rattle.ids.proofs.Places.{found-case}
 use Rattle.judge.specs.Judge.{noFaults, dtFaults, firstFault}
 use Rattle.values.specs.Speeds.{tpsOf}
 use Rattle.values.specs.declared.clock_speed.ClockSpeed.the-variants.{TicksPerSecond}
@@ -54,7 +55,7 @@ use Rattle.laws.specs.SoundStation.{All, Number, SoundClock, SoundModula
 use Rattle.laws.proofs.lemmas.Accepted.{judged-case}
 use Rattle.laws.proofs.lemmas.Clear.{fraction-range}
 use Rattle.laws.proofs.lemmas.ClocksKept.{SoundMoved, new-clock, update-clock, run-clock-sound}
-use Rattle.laws.proofs.lemmas.Deeds.{cond-case, found-case, read-case, turnedTo}
+use Rattle.laws.proofs.lemmas.Deeds.{cond-case, read-case, turnedTo}
 use Rattle.laws.proofs.lemmas.Every.{all-set, all-replicate, all-map, all-weaker, all-read}
 use Rattle.laws.proofs.lemmas.Floats as floats
 use Rattle.laws.proofs.lemmas.ModulatorsKept.{new-tweener, update-tweener, update-lfo, run-modulator-sound}
@@ -74,7 +75,7 @@ module _ (info : Info) (h : All Number (info .values)) where
   value-seen : (id : ModulatorId) → SoundInput (modulatorValueOf info id)
   unfolding modulatorValueOf
   value-seen id =
-      found-case (λ w. SoundInput (valueFound (info .values) w)) (info .«modulator_keys») (id .slot) (id .generation) tt (λ l.
+      found-case (info .«modulator_keys») (id .slot) (id .generation) (λ w. SoundInput (valueFound (info .values) w)) (λ n z l. tt) (λ l.
       all-read Number SoundInput input.None (λ x. input.Is x) tt (λ x k. k) (info .values) (id .slot) h)
 
   float-input : (v : FloatValue) → SoundInput (floatInputOf info v)

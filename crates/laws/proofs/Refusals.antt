@@ -11,10 +11,10 @@ use lib.Ieee.{Float}
 use Rattle.ids.specs.Keys.{Place, place, freeOf}
 use Rattle.ids.specs.Tables.{Table, readFound, whereIs, refusedAdd, placedIn, addedTo}
 use Rattle.ids.specs.declared.Key.{Key}
-use Rattle.ids.proofs.Places.{room-number}
+use Rattle.ids.proofs.Places.{found-case, room-number}
 use Rattle.judge.specs.Answer.{Answer, accepted, refused, isRefused, numberTold, onAccepted}
 use Rattle.judge.specs.Judge.{ofAdd, floatFaults, dtFaults, numberOf, firstFault, decided}
-use Rattle.judge.specs.Numbers.{«NO_SUCH», «NO_ROOM»}
+use Rattle.judge.specs.Numbers.{«NO_ROOM», «NEVER_ISSUED»}
 use Rattle.judge.specs.declared.Faults.{Faults}
 use Rattle.times.specs.declared.start_time.When.{When}
 use Rattle.times.specs.declared.tween.Tween.{Tween}
@@ -49,7 +49,7 @@ use Rattle.commands.specs.declared.modulator_command.ModulatorCommand.the-varia
 use Rattle.station.specs.Frames.{frameOf}
 use Rattle.station.specs.declared.Station.{Station}
 use Rattle.laws.specs.Calls.{Call, clock, modulator, frame, after, Kind, ofClock, ofModulator, keysOf, entriesOf, Told, refusal, told, callNumber, Target}
-use Rattle.laws.proofs.lemmas.Deeds.{found-case, read-case, Deed, leaves, changes, removes, adds, turns, deed}
+use Rattle.laws.proofs.lemmas.Deeds.{read-case, Deed, leaves, changes, removes, adds, turns, deed}
 
 -- ---- calls on a station
 
@@ -102,8 +102,8 @@ numbered-on f (refused n) h = h
 module _ {T E I D : Type 0} (k : Table T E I D) (t : T) where
   pub numbered-read : {A : Type 0} (id : I) (f : E → A) → Numbered (readFound k t (whereIs k t id) f)
   numbered-read id f =
-      found-case (λ w. Numbered (readFound k t w f)) (k .keysOf t) (k .slotIn id) (k .generationIn id) (λ z. omega arith) (λ l.
-      read-case Numbered (refused «NO_SUCH») (λ e. accepted (f e)) (λ z. omega arith) (λ e. tt) (k .entriesOf t) (k .slotIn id))
+      found-case (k .keysOf t) (k .slotIn id) (k .generationIn id) (λ w. Numbered (readFound k t w f)) (λ n z l. z) (λ l.
+      read-case Numbered (refused «NEVER_ISSUED») (λ e. accepted (f e)) (λ z. omega arith) (λ e. tt) (k .entriesOf t) (k .slotIn id))
 
   numbered-add : (f : Faults) (e : E) → Numbered (addedTo k t f e .answer)
   numbered-add f e = go (eqb n 0) (eqb-false n 0)

@@ -3,9 +3,10 @@
 use Prim.Native.Nat.{ℕ}
 use mathlib.Core.Path.{_≡_}
 use mathlib.Core.Bool.{Bool, true}
-use mathlib.Core.List.{List}
+use mathlib.Core.Logic.{_⊎_}
+use mathlib.Core.List.{List, [], _∷_}
 use lib.ListN.{getD}
-use Rattle.ids.specs.Keys.{livesIn}
+use Rattle.ids.specs.Keys.{livesIn, Standing, standingOf}
 use Rattle.ids.specs.declared.Key.{Key}
 use Rattle.judge.specs.Answer.{Answer, accepted, refused, numberTold}
 use Rattle.clock.specs.declared.Clock.{Clock}
@@ -32,6 +33,10 @@ keysOf ofModulator st = st .modulators .keys
 
 abbrev pub lives : Kind → Station → ℕ → ℕ → Bool
 lives k st i g = livesIn (keysOf k st) i g
+
+-- what an id is to the table of its kind: RULES, gone and never-issued
+abbrev pub standing : Kind → Station → ℕ → ℕ → Standing
+standing k st i g = standingOf (keysOf k st) i g
 
 -- what a slot holds
 abbrev pub Entry : Kind → Type 0
@@ -60,6 +65,11 @@ done = accepted answers.done
 -- the number of the refusal, and 0 where the call is accepted
 abbrev pub callNumber : Station → Call → ℕ
 callNumber st c = numberTold (told st c)
+
+-- one of these calls, made one after the other from this station on, gave that id out: RULES, issued
+abbrev pub Issued : Kind → ℕ → ℕ → Station → List Call → Type 0
+Issued k i g st [] = ⊥
+Issued k i g st (c ∷ cs) = (told st c ≡ named k i g) ⊎ Issued k i g (after st c) cs
 
 -- ---- what a call acts on
 

@@ -5,7 +5,7 @@ use mathlib.Core.List.{List, [], _∷_}
 use lib.Ieee.{Float}
 use Rattle.ids.specs.Lists.{readAt}
 use Rattle.judge.specs.Answer.{Answer, accepted, refused}
-use Rattle.judge.specs.Numbers.{«NO_SUCH»}
+use Rattle.judge.specs.Numbers.{«NEVER_ISSUED»}
 use Rattle.judge.specs.declared.Faults.{Faults}
 use Rattle.ids.specs.Tables.{whereIs, refusedCall}
 use Rattle.judge.specs.Judge.{floatFaults, firstFault, decided}
@@ -37,7 +37,7 @@ read-same none f g same (s ∷ l) (suc i) = read-same none f g same l i
 module _ (t : Modulators) where
   on-same : (f g : ℕ → Modulator → ModulatorDone) → ((i : ℕ) (m : Modulator) → f i m ≡ g i m) → (w : Answer ℕ) → onModulator t w f ≡ onModulator t w g
   on-same f g same (refused n) = refl
-  on-same f g same (accepted i) = read-same (refusedCall modulatorTable t «NO_SUCH») (λ s. f i (s .modulator)) (λ s. g i (s .modulator)) (λ s. same i (s .modulator)) (t .slots) i
+  on-same f g same (accepted i) = read-same (refusedCall modulatorTable t «NEVER_ISSUED») (λ s. f i (s .modulator)) (λ s. g i (s .modulator)) (λ s. same i (s .modulator)) (t .slots) i
 
   -- what a set makes of the modulator m in slot i
   abbrev made : Asked → Faults → ℕ → Modulator → ModulatorDone

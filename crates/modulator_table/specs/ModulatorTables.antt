@@ -8,7 +8,7 @@ use Rattle.ids.specs.Keys.{leftAt}
 use Rattle.ids.specs.Tables.{Table, Added, whereIs, refusedCall, onFound, changed, freed, readFound, addedTo}
 use Rattle.ids.specs.declared.Placed.{Placed}
 use Rattle.judge.specs.Answer.{Answer, accepted, refused}
-use Rattle.judge.specs.Numbers.{«NO_SUCH»}
+use Rattle.judge.specs.Numbers.{«NEVER_ISSUED»}
 use Rattle.judge.specs.Judge.{floatFaults, firstFault, decided}
 use Rattle.judge.specs.declared.Faults.{Faults}
 use Rattle.waveform.specs.Waves.{waveFaults}
@@ -102,13 +102,13 @@ changeJudged t i f m = decided (firstFault f) (changedTo t i m) (refusedCall mod
 unfoldable pub removeOf : Modulators → ModulatorId → ModulatorDone
 removeOf t id = onModulator t (whereIs modulatorTable t id) (λ i m. freed modulatorTable t i (id .generation))
 
--- NO_SUCH where the call is for the other kind: RULES, no-such
+-- NEVER_ISSUED where the call is for the other kind: RULES, never-issued
 abbrev pub onTweener : Modulators → Modulator → (Tweener → ModulatorDone) → ModulatorDone
 onTweener t (OfTweener w) f = f w
-onTweener t (OfLfo l) f = refusedCall modulatorTable t «NO_SUCH»
+onTweener t (OfLfo l) f = refusedCall modulatorTable t «NEVER_ISSUED»
 
 abbrev pub onLfo : Modulators → Modulator → (Lfo → ModulatorDone) → ModulatorDone
-onLfo t (OfTweener w) f = refusedCall modulatorTable t «NO_SUCH»
+onLfo t (OfTweener w) f = refusedCall modulatorTable t «NEVER_ISSUED»
 onLfo t (OfLfo l) f = f l
 
 unfoldable pub setTweenerOf : Modulators → ModulatorId → Float → Tween → ModulatorDone

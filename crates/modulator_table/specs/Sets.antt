@@ -3,7 +3,7 @@ use Prim.Native.Nat.{ℕ}
 use mathlib.Core.Bool.{Bool, true, false, cond}
 use Rattle.ids.specs.Tables.{whereIs, refusedCall}
 use Rattle.judge.specs.Judge.{firstFault, decided}
-use Rattle.judge.specs.Numbers.{«NO_SUCH»}
+use Rattle.judge.specs.Numbers.{«NEVER_ISSUED»}
 use Rattle.judge.specs.declared.Faults.{Faults}
 use Rattle.values.specs.declared.value.ModulatorId.{ModulatorId}
 use Rattle.modulator.specs.Tweeners.{tweenerToOf}
@@ -24,12 +24,12 @@ abbrev pub isLfo : Modulator → Bool
 isLfo (OfTweener w) = false
 isLfo (OfLfo l) = true
 
--- NO_SUCH where the set is for the other kind, or else n: RULES, no-such
+-- NEVER_ISSUED where the set is for the other kind, or else n: RULES, never-issued
 abbrev pub refusalOf : Bool → Asked → ℕ → ℕ
-refusalOf lfo (asked.Target x w) n = cond lfo «NO_SUCH» n
-refusalOf lfo (asked.Parameter k v w) n = cond lfo n «NO_SUCH»
-refusalOf lfo (asked.Wave w) n = cond lfo n «NO_SUCH»
-refusalOf lfo (asked.Phase x) n = cond lfo n «NO_SUCH»
+refusalOf lfo (asked.Target x w) n = cond lfo «NEVER_ISSUED» n
+refusalOf lfo (asked.Parameter k v w) n = cond lfo n «NEVER_ISSUED»
+refusalOf lfo (asked.Wave w) n = cond lfo n «NEVER_ISSUED»
+refusalOf lfo (asked.Phase x) n = cond lfo n «NEVER_ISSUED»
 
 -- what is for an LFO leaves a tweener
 abbrev pub tweenerBy : Tweener → Asked → Tweener
@@ -49,7 +49,8 @@ abbrev pub modulatorBy : Modulator → Asked → Modulator
 modulatorBy (OfTweener w) a = OfTweener (tweenerBy w a)
 modulatorBy (OfLfo l) a = OfLfo (lfoBy l a)
 
--- a slot after a set: the number of the lookup, then NO_SUCH for the other kind, then the number n of the arguments
+-- a slot after a set: the number of the lookup, then NEVER_ISSUED for the other kind, then the number n of the
+-- arguments
 abbrev pub numberBy : ℕ → Slot → Asked → ℕ → ℕ
 numberBy found s a n = decided found (refusalOf (isLfo (s .modulator)) a n) (λ m. m)
 

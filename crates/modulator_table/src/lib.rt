@@ -12,7 +12,7 @@ use ids::left;
 use ids::place;
 use judge::Faults;
 use judge::Floated;
-use judge::NO_SUCH;
+use judge::NEVER_ISSUED;
 use judge::first_fault;
 use judge::float_faults;
 use modulator::lfo::Lfo;
@@ -198,14 +198,14 @@ fn is_lfo(m: Modulator) -> bool
     }
 }
 
-// NO_SUCH where the modulator is of the other kind than is asked, and n where it is not.
+// NEVER_ISSUED where the modulator is of the other kind than is asked, and n where it is not.
 fn refusal(lfo: bool, asked: Asked, n: u32) -> u32
     ensures { λ r. ⌜ r ≡ refusalOf lfo asked n ⌝ }
 {
     match asked {
         Asked::Target(_, _) => {
             if lfo {
-                return NO_SUCH;
+                return NEVER_ISSUED;
             }
             n
         }
@@ -213,19 +213,19 @@ fn refusal(lfo: bool, asked: Asked, n: u32) -> u32
             if lfo {
                 return n;
             }
-            NO_SUCH
+            NEVER_ISSUED
         }
         Asked::Wave(_) => {
             if lfo {
                 return n;
             }
-            NO_SUCH
+            NEVER_ISSUED
         }
         Asked::Phase(_) => {
             if lfo {
                 return n;
             }
-            NO_SUCH
+            NEVER_ISSUED
         }
     }
 }

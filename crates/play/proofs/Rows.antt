@@ -8,7 +8,7 @@ use mathlib.Core.List.{List, [], _∷_, _++_}
 use lib.Ieee.{ofBits, binary64, add, sub, mul, lt, le, eq, toUnsigned}
 use lib.ListN.{replicate}
 use Rattle.doubles.specs.Doubles.{zeroF}
-use Rattle.ids.specs.Keys.{freeOf, livesIn, findOf}
+use Rattle.ids.specs.Keys.{freeOf, livesIn, standingOf, findOf}
 use Rattle.ids.specs.Lists.{readAt}
 use Rattle.ticks.specs.WholeTicks.{roomFor, takenOf}
 use Rattle.judge.specs.Answer.{accepted}
@@ -18,7 +18,7 @@ use Rattle.values.specs.declared.clock_speed.ClockSpeed.the-variants.{TicksPerS
 use Rattle.values.specs.declared.value.SpeedValue.the-variants.{Fixed}
 use Rattle.parameter.specs.SpeedParameters as speeds
 use Rattle.clock.specs.OneClock.{tickOf, updateClockOf}
-use Rattle.clock_table.specs.ClockTables.{addClockOf, tickOnOf, clockTimeOf}
+use Rattle.clock_table.specs.ClockTables.{addClockOf, removeOf, tickOnOf, clockTimeOf}
 use Rattle.commands.specs.ClockCommands.{runClockOf}
 use Rattle.commands.specs.declared.clock_command.ClockCommand.the-variants as command
 use Rattle.station.specs.Frames.{modulatorTurns, modulatorsTurned, clockTurns, clocksTurned, frameOf}
@@ -30,7 +30,7 @@ use Rattle.run.specs.Runs.{afterAll}
 use Rattle.run.specs.declared.Call.{Call}
 use Rattle.run.specs.declared.Call.the-variants as call
 use Rattle.record.specs.Fields.{sameBytes, begins, decimalBehind, hexBehind}
-use Rattle.record.specs.Records.{«op=add», «op=stop», «slot=», «gen=», «arg=», opOf, judgeOf}
+use Rattle.record.specs.Records.{«op=add», «op=drop», «op=stop», «slot=», «gen=», «arg=», opOf, judgeOf}
 use Rattle.recording.specs.Recordings.{linesFrom, tapeOf}
 use Rattle.recording.specs.Writings.{Writable, All, ended, writtenOf}
 use Rattle.text.specs.Numbers.{decimalOf, hex16Of, numberFrom}
@@ -69,7 +69,7 @@ calls =
     ∷ []
 
 pub noted : Noted freshStation calls shift
-unfolding Noted ofBits numberOf firstFault add sub mul lt le eq toUnsigned freeOf livesIn findOf readAt roomFor takenOf tickOf updateClockOf addClockOf tickOnOf runClockOf speeds.updateOf infoIn turnClock modulatorTurns modulatorsTurned clockTurns clocksTurned frameOf
+unfolding Noted ofBits numberOf firstFault add sub mul lt le eq toUnsigned freeOf livesIn standingOf findOf readAt roomFor takenOf tickOf updateClockOf addClockOf tickOnOf runClockOf speeds.updateOf infoIn turnClock modulatorTurns modulatorsTurned clockTurns clocksTurned frameOf
 noted = (refl, refl, (refl, refl, (refl, refl, (refl, refl, (refl, refl, tt)))))
 
 pub replayed : replayOf (writtenOf shift) ≡ record { station = afterAll freshStation calls; verdict = verdict.Accepted }
@@ -80,7 +80,7 @@ abbrev stands : ℕ → ℕ → Type 0
 stands s n = clockTimeOf (afterAll freshStation calls .clocks) (id s 1) ≡ accepted record { clock = id s 1; ticks = n; fraction = zeroF }
 
 pub two-motors : stands 0 1 × stands 1 2
-unfolding afterAll clockTimeOf ofBits numberOf firstFault add sub mul lt le eq toUnsigned freeOf livesIn findOf readAt roomFor takenOf tickOf updateClockOf addClockOf tickOnOf runClockOf speeds.updateOf infoIn turnClock modulatorTurns modulatorsTurned clockTurns clocksTurned frameOf
+unfolding afterAll clockTimeOf ofBits numberOf firstFault add sub mul lt le eq toUnsigned freeOf livesIn standingOf findOf readAt roomFor takenOf tickOf updateClockOf addClockOf tickOnOf runClockOf speeds.updateOf infoIn turnClock modulatorTurns modulatorsTurned clockTurns clocksTurned frameOf
 two-motors = (refl, refl)
 
 -- ---- refusals
@@ -124,10 +124,16 @@ pub cut : verdictOn (added ++ 0x6f ∷ 0x70 ∷ 0x3d ∷ []) ≡ verdict.Refused
 unfolding replayOf endOf takenOn numberOn tapeOf linesFrom judgeOf opOf sameBytes begins decimalBehind decimalOf hexBehind hex16Of numberFrom ofBits numberOf firstFault lt le eq freeOf addClockOf runClockOf
 cut = refl
 
--- 0:2 does not live: the call's own number
-pub no-such : verdictOn (added ++ lines «op=stop» (0x30 ∷ []) (0x32 ∷ []) zeros) ≡ verdict.Refused 7 (place.Record 1)
-unfolding replayOf endOf takenOn numberOn tapeOf linesFrom judgeOf opOf sameBytes begins decimalBehind decimalOf hexBehind hex16Of numberFrom ofBits numberOf firstFault lt le eq freeOf livesIn findOf readAt addClockOf tickOnOf runClockOf
-no-such = refl
+-- 0:2 was not given out yet: the call's own number
+pub never-issued : verdictOn (added ++ lines «op=stop» (0x30 ∷ []) (0x32 ∷ []) zeros) ≡ verdict.Refused 15 (place.Record 1)
+unfolding replayOf endOf takenOn numberOn tapeOf linesFrom judgeOf opOf sameBytes begins decimalBehind decimalOf hexBehind hex16Of numberFrom ofBits numberOf firstFault lt le eq freeOf livesIn standingOf findOf readAt addClockOf tickOnOf runClockOf
+never-issued = refl
+
+-- 0:1 is taken off, and then stopped: it is gone
+pub gone :
+    verdictOn (added ++ lines «op=drop» (0x30 ∷ []) (0x31 ∷ []) zeros ++ lines «op=stop» (0x30 ∷ []) (0x31 ∷ []) zeros) ≡ verdict.Refused 7 (place.Record 2)
+unfolding replayOf endOf takenOn numberOn tapeOf linesFrom judgeOf opOf sameBytes begins decimalBehind decimalOf hexBehind hex16Of numberFrom ofBits numberOf firstFault lt le eq freeOf livesIn standingOf findOf readAt addClockOf removeOf tickOnOf runClockOf
+gone = refl
 
 -- an add whose speed is NaN, and which names another id than it would give: the call's own number comes first
 pub speed-first : verdictOn (added ++ lines «op=add» (0x30 ∷ []) (0x39 ∷ []) (0x37 ∷ 0x66 ∷ 0x66 ∷ 0x38 ∷ replicate 12 0x30)) ≡ verdict.Refused 3 (place.Record 1)

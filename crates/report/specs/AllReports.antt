@@ -39,4 +39,4 @@ shortForAll out = ltb (length out) 1536
 
 -- BUFFER is the only refusal: RULES, reports
 unfoldable pub allReportsOf : Clocks → List ℕ → Outcome
-allReportsOf t out = decided (numberOf (ofReport false (shortForAll out))) (atStart (livingText t) out) (λ n. unchanged n out)
+allReportsOf t out = decided (numberOf (ofReport false false (shortForAll out))) (atStart (livingText t) out) (λ n. unchanged n out)

@@ -85,10 +85,10 @@ atStart text out = record { answer = accepted (length text); out = text ++ drop 
 abbrev pub tooShort : List ℕ → Bool
 tooShort out = ltb (length out) 96
 
--- the number of the lookup, where there is no such clock; then BUFFER: RULES, no-such and order
+-- the number of the lookup, where no clock lives under the id; then BUFFER: RULES, gone, never-issued and order
 abbrev pub intoBuffer : List ℕ → Answer (List ℕ) → Outcome
 intoBuffer out (refused n) = unchanged n out
-intoBuffer out (accepted text) = decided (numberOf (ofReport false (tooShort out))) (atStart text out) (λ n. unchanged n out)
+intoBuffer out (accepted text) = decided (numberOf (ofReport false false (tooShort out))) (atStart text out) (λ n. unchanged n out)
 
 unfoldable pub reportOf : Clocks → ClockId → List ℕ → Outcome
 reportOf t id out = intoBuffer out (readFound clockTable t (whereIs clockTable t id) (reportText id))

@@ -1,7 +1,5 @@
 //! The calls `clock.*`.
 
-use atomic_arena::Key;
-
 use crate::{
     Value,
     clock::{Clock, ClockHandle, ClockId, ClockSpeed, State},
@@ -9,9 +7,9 @@ use crate::{
 
 use super::{
     give,
-    judge::{self, Faults},
+    judge::{self, Faults, Named},
     show,
-    station::Station,
+    station::{LIVES, Station},
     words::Words,
 };
 
@@ -49,23 +47,36 @@ fn add(mut words: Words, station: &mut Station) -> Option<String> {
         let inserted = station.tables.clocks.insert_with_key(key, clock);
         inserted.expect("the key was just reserved");
         station.clocks.insert(key, handle);
+        station.given_clocks.note(key);
         format!("id {}", show::id(key))
     })
 }
 
+/// The id of the clock that a call acts on.
+fn judge_id(station: &Station, id: ClockId) -> Faults {
+    let named = match station.clocks.get(&id.0) {
+        Some(_) => Named::Wanted,
+        None => Named::Nothing,
+    };
+    judge::id(named, station.given_clocks.has(id.0))
+}
+
 fn remove(mut words: Words, station: &mut Station) -> Option<String> {
-    let key = words.clock_id()?.0;
+    let id = words.clock_id()?;
     words.end()?;
-    let lives = station.tables.clocks.remove(key).is_some();
-    station.clocks.remove(&key);
-    give(judge::living(lives), || "ok".to_string())
+    give(judge_id(station, id), || {
+        station.tables.clocks.remove(id.0).expect(LIVES);
+        station.clocks.remove(&id.0);
+        "ok".to_string()
+    })
 }
 
 /// Gives a living clock's handle a command, which acts at once.
-fn act(station: &mut Station, key: Key, command: impl FnOnce(&mut ClockHandle)) -> Option<()> {
-    command(station.clocks.get_mut(&key)?);
-    station.tables.clocks.get_mut(key)?.on_start_processing();
-    Some(())
+fn act(station: &mut Station, id: ClockId, command: impl FnOnce(&mut ClockHandle)) -> String {
+    command(station.clocks.get_mut(&id.0).expect(LIVES));
+    let clock = station.tables.clocks.get_mut(id.0);
+    clock.expect(LIVES).on_start_processing();
+    "ok".to_string()
 }
 
 fn command(
@@ -73,10 +84,9 @@ fn command(
     station: &mut Station,
     command: fn(&mut ClockHandle),
 ) -> Option<String> {
-    let key = words.clock_id()?.0;
+    let id = words.clock_id()?;
     words.end()?;
-    let done = act(station, key, command);
-    give(judge::living(done.is_some()), || "ok".to_string())
+    give(judge_id(station, id), || act(station, id, command))
 }
 
 /// The speed whose unit a value has. Where a mapping's ends differ in unit, that alone refuses the call.
@@ -93,32 +103,29 @@ fn set_speed(mut words: Words, station: &mut Station) -> Option<String> {
     words.end()?;
     let reached = match station.tables.clocks.get(id.0) {
         Some(clock) => judge::speed_change(clock.present_speed(), unit(&value)),
-        None => judge::living(false),
+        None => Faults::NONE,
     };
-    let faults = reached | judge::speed_value(&value) | judge::tween(tween);
+    let faults = judge_id(station, id) | reached | judge::speed_value(&value) | judge::tween(tween);
     give(faults, || {
-        let done = act(station, id.0, |handle| handle.set_speed(value, tween));
-        done.expect("the clock lives");
-        "ok".to_string()
+        act(station, id, |handle| handle.set_speed(value, tween))
     })
 }
 
 fn time(mut words: Words, station: &Station) -> Option<String> {
     let id = words.clock_id()?;
     words.end()?;
-    match station.tables.info().clock_info(id) {
-        Some(clock) => Some(show::time(clock.time)),
-        None => give(judge::living(false), String::new),
-    }
+    give(judge_id(station, id), || {
+        let clock = station.tables.info().clock_info(id);
+        show::time(clock.expect(LIVES).time)
+    })
 }
 
 fn read(mut words: Words, station: &Station, show: fn(&Clock) -> String) -> Option<String> {
     let id = words.clock_id()?;
     words.end()?;
-    match station.tables.clocks.get(id.0) {
-        Some(clock) => Some(show(clock)),
-        None => give(judge::living(false), String::new),
-    }
+    give(judge_id(station, id), || {
+        show(station.tables.clocks.get(id.0).expect(LIVES))
+    })
 }
 
 fn report(mut words: Words, station: &Station) -> Option<String> {
@@ -126,12 +133,11 @@ fn report(mut words: Words, station: &Station) -> Option<String> {
     let length = words.number_up_to(LONGEST_BUFFER)? as usize;
     words.end()?;
     let mut buffer = vec![b'.'; length];
-    let clock = station.tables.clocks.get(id.0);
-    let faults = judge::living(clock.is_some()) | judge::buffer(length);
+    let faults = judge_id(station, id) | judge::buffer(length);
     if let Some(number) = faults.first() {
         return Some(format!("refused {number} {}", printed(&buffer)));
     }
-    let text = report_text(id, clock?);
+    let text = report_text(id, station.tables.clocks.get(id.0).expect(LIVES));
     buffer[..text.len()].copy_from_slice(text.as_bytes());
     Some(printed(&buffer))
 }
@@ -157,21 +163,22 @@ fn printed(buffer: &[u8]) -> String {
 fn preset(mut words: Words, station: &mut Station) -> Option<String> {
     let at = words.clock_time()?;
     words.end()?;
-    let clock = station.tables.clocks.get_mut(at.clock.0);
-    let faults = judge::living(clock.is_some()) | judge::fraction(at.fraction);
+    let faults = judge_id(station, at.clock) | judge::fraction(at.fraction);
     give(faults, || {
-        clock
-            .expect("the clock lives")
-            .preset(at.ticks, at.fraction);
+        let clock = station.tables.clocks.get_mut(at.clock.0);
+        clock.expect(LIVES).preset(at.ticks, at.fraction);
         "ok".to_string()
     })
 }
 
-fn set_generation(mut words: Words, station: &Station) -> Option<String> {
+fn set_generation(mut words: Words, station: &mut Station) -> Option<String> {
     let id = words.clock_id()?;
     words.end()?;
     let set = station.tables.clocks.controller().set_generation(id.0);
-    set.then(|| "ok".to_string())
+    set.then(|| {
+        station.given_clocks.count_up_to(id.0);
+        "ok".to_string()
+    })
 }
 
 /// What a frame is refused for on account of this clock.

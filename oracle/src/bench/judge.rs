@@ -14,7 +14,7 @@ use super::less;
 pub(super) struct Faults(u16);
 
 /// Of the refusals that hold, the earliest here is answered.
-const ORDER: [u8; 12] = [7, 1, 2, 3, 4, 5, 6, 8, 9, 10, 11, 12];
+const ORDER: [u8; 13] = [7, 15, 1, 2, 3, 4, 5, 6, 8, 9, 10, 11, 12];
 
 const BAD_DT: u8 = 1;
 const BAD_FLOAT: u8 = 2;
@@ -22,12 +22,13 @@ const BAD_SPEED: u8 = 3;
 const BAD_EASE: u8 = 4;
 const BAD_MAP: u8 = 5;
 const BAD_TIME: u8 = 6;
-const NO_SUCH: u8 = 7;
+const GONE: u8 = 7;
 const NO_ROOM: u8 = 8;
 const TOO_FAR: u8 = 9;
 const TICKS_FULL: u8 = 10;
 const BUFFER: u8 = 11;
 const BEFORE_ZERO: u8 = 12;
+const NEVER_ISSUED: u8 = 15;
 
 const LARGEST_DT: f64 = 60.0;
 const LARGEST_FLOAT: f64 = (1u64 << 40) as f64;
@@ -204,9 +205,23 @@ pub(super) fn added_amount(held: u64, fraction: f64, amount: f64) -> Faults {
     added_ticks(held, (fraction + amount).trunc() as u64)
 }
 
-/// The id acted on.
-pub(super) fn living(lives: bool) -> Faults {
-    Faults::when(!lives, NO_SUCH)
+/// What lives under the id that a call acts on.
+#[derive(Debug, Clone, Copy, PartialEq)]
+pub(super) enum Named {
+    /// What the call acts on.
+    Wanted,
+    /// A modulator, but not of the kind that the call acts on.
+    OtherKind,
+    Nothing,
+}
+
+/// The id acted on, and whether its table has given it. Only what does not live can be dead.
+pub(super) fn id(named: Named, given: bool) -> Faults {
+    match named {
+        Named::Wanted => Faults::NONE,
+        Named::Nothing if given => Faults::when(true, GONE),
+        Named::Nothing | Named::OtherKind => Faults::when(true, NEVER_ISSUED),
+    }
 }
 
 pub(super) fn room(full: bool) -> Faults {
@@ -246,12 +261,35 @@ mod tests {
 
     #[test]
     fn the_earliest_in_order_is_answered() {
-        let id = Faults::when(true, 7);
         let all = Faults::when(true, 12) | Faults::when(true, 6) | Faults::when(true, 2);
         assert_eq!(Faults::NONE.first(), None);
         assert_eq!(all.first(), Some(2));
         assert_eq!((all | Faults::when(true, 1)).first(), Some(1));
-        assert_eq!((all | Faults::when(true, 1) | id).first(), Some(7));
+    }
+
+    #[test]
+    fn an_id_is_judged_before_everything_else() {
+        let (gone, never) = (id(Named::Nothing, true), id(Named::Nothing, false));
+        for number in [1, 2, 3, 4, 5, 6, 8, 9, 10, 11, 12] {
+            let other = Faults::when(true, number);
+            assert_eq!(other.first(), Some(number));
+            assert_eq!((other | gone).first(), Some(GONE));
+            assert_eq!((other | never).first(), Some(NEVER_ISSUED));
+        }
+        assert_eq!((never | gone).first(), Some(GONE));
+    }
+
+    #[test]
+    fn an_id_is_dead_where_it_was_given_and_nothing_lives_there() {
+        let rows = [
+            (Named::Wanted, true, None),
+            (Named::Nothing, true, Some(GONE)),
+            (Named::Nothing, false, Some(NEVER_ISSUED)),
+            (Named::OtherKind, true, Some(NEVER_ISSUED)),
+        ];
+        for (named, given, number) in rows {
+            assert_eq!(id(named, given).first(), number, "{named:?} {given}");
+        }
     }
 
     #[test]

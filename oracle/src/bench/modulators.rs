@@ -1,9 +1,5 @@
 //! The calls `tweener.*`, `lfo.*` and `mod.*`.
 
-use std::collections::HashMap;
-
-use atomic_arena::Key;
-
 use crate::{
     Tween, Value,
     modulator::{
@@ -15,11 +11,18 @@ use crate::{
 
 use super::{
     give,
-    judge::{self, Faults},
+    judge::{self, Faults, Named},
     show,
-    station::{ModulatorHandle, Station, Tables},
+    station::{LIVES, ModulatorHandle, Station},
     words::Words,
 };
+
+/// A handle, read as one of the kind that a call acts on.
+type OfKind<H> = fn(&mut ModulatorHandle) -> Option<&mut H>;
+
+const TWEENER: OfKind<TweenerHandle> = ModulatorHandle::tweener;
+const LFO: OfKind<LfoHandle> = ModulatorHandle::lfo;
+const EITHER: OfKind<ModulatorHandle> = |handle| Some(handle);
 
 pub(super) fn answer(call: &str, words: Words, station: &mut Station) -> Option<String> {
     match call {
@@ -53,6 +56,7 @@ fn add(
     let inserted = modulators.insert_with_key(key, modulator);
     inserted.expect("the key was just reserved");
     station.modulators.insert(key, handle);
+    station.given_modulators.note(key);
     format!("id {}", show::id(key))
 }
 
@@ -91,36 +95,29 @@ fn add_lfo(mut words: Words, station: &mut Station) -> Option<String> {
     })
 }
 
-type Handles = HashMap<Key, ModulatorHandle>;
-
-fn tweener(handles: &mut Handles, id: ModulatorId) -> Option<&mut TweenerHandle> {
-    match handles.get_mut(&id.0) {
-        Some(ModulatorHandle::Tweener(tweener)) => Some(tweener),
-        _ => None,
-    }
-}
-
-fn lfo(handles: &mut Handles, id: ModulatorId) -> Option<&mut LfoHandle> {
-    match handles.get_mut(&id.0) {
-        Some(ModulatorHandle::Lfo(lfo)) => Some(lfo),
-        _ => None,
-    }
+/// The id of the modulator that a call acts on.
+fn judge_id<H>(station: &mut Station, id: ModulatorId, of_kind: OfKind<H>) -> Faults {
+    let named = match station.modulators.get_mut(&id.0).map(of_kind) {
+        Some(Some(_)) => Named::Wanted,
+        Some(None) => Named::OtherKind,
+        None => Named::Nothing,
+    };
+    judge::id(named, station.given_modulators.has(id.0))
 }
 
 /// Gives a living modulator's handle a command, which acts at once.
 fn command<H>(
-    tables: &mut Tables,
-    (id, handle): (ModulatorId, Option<&mut H>),
+    station: &mut Station,
+    (id, of_kind): (ModulatorId, OfKind<H>),
     faults: Faults,
     write: impl FnOnce(&mut H),
 ) -> Option<String> {
-    let faults = judge::living(handle.is_some()) | faults;
+    let faults = judge_id(station, id, of_kind) | faults;
     give(faults, || {
-        write(handle.expect("the id was judged"));
-        let modulator = tables.modulators.get_mut(id.0);
-        modulator
-            .expect("what a handle names lives")
-            .on_start_processing();
+        let handle = station.modulators.get_mut(&id.0).and_then(of_kind);
+        write(handle.expect(LIVES));
+        let modulator = station.tables.modulators.get_mut(id.0);
+        modulator.expect(LIVES).on_start_processing();
         "ok".to_string()
     })
 }
@@ -128,10 +125,9 @@ fn command<H>(
 fn set_tweener(mut words: Words, station: &mut Station) -> Option<String> {
     let (id, target, tween) = (words.modulator_id()?, words.float()?, words.tween()?);
     words.end()?;
-    let named = (id, tweener(&mut station.modulators, id));
     let faults = judge::float(target) | judge::tween(tween);
-    command(&mut station.tables, named, faults, |tweener| {
-        tweener.set(target, tween);
+    command(station, (id, TWEENER), faults, |tweener| {
+        tweener.set(target, tween)
     })
 }
 
@@ -142,19 +138,14 @@ fn set_lfo(
 ) -> Option<String> {
     let (id, target, tween) = (words.modulator_id()?, words.float_value()?, words.tween()?);
     words.end()?;
-    let named = (id, lfo(&mut station.modulators, id));
     let faults = judge::float_value(&target) | judge::tween(tween);
-    command(&mut station.tables, named, faults, |lfo| {
-        set(lfo, target, tween)
-    })
+    command(station, (id, LFO), faults, |lfo| set(lfo, target, tween))
 }
 
 fn set_waveform(mut words: Words, station: &mut Station) -> Option<String> {
     let (id, waveform) = (words.modulator_id()?, words.waveform()?);
     words.end()?;
-    let named = (id, lfo(&mut station.modulators, id));
-    let faults = judge::waveform(waveform);
-    command(&mut station.tables, named, faults, |lfo| {
+    command(station, (id, LFO), judge::waveform(waveform), |lfo| {
         lfo.set_waveform(waveform)
     })
 }
@@ -162,33 +153,36 @@ fn set_waveform(mut words: Words, station: &mut Station) -> Option<String> {
 fn set_phase(mut words: Words, station: &mut Station) -> Option<String> {
     let (id, phase) = (words.modulator_id()?, words.float()?);
     words.end()?;
-    let named = (id, lfo(&mut station.modulators, id));
-    let faults = judge::float(phase);
-    command(&mut station.tables, named, faults, |lfo| {
+    command(station, (id, LFO), judge::float(phase), |lfo| {
         lfo.set_phase(phase)
     })
 }
 
-fn value(mut words: Words, station: &Station) -> Option<String> {
+fn value(mut words: Words, station: &mut Station) -> Option<String> {
     let id = words.modulator_id()?;
     words.end()?;
-    match station.tables.info().modulator_value(id) {
-        Some(value) => Some(show::float(value)),
-        None => give(judge::living(false), String::new),
-    }
+    give(judge_id(station, id, EITHER), || {
+        let value = station.tables.info().modulator_value(id);
+        show::float(value.expect(LIVES))
+    })
 }
 
 fn remove(mut words: Words, station: &mut Station) -> Option<String> {
     let id = words.modulator_id()?;
     words.end()?;
-    let lives = station.tables.modulators.remove(id.0).is_some();
-    station.modulators.remove(&id.0);
-    give(judge::living(lives), || "ok".to_string())
+    give(judge_id(station, id, EITHER), || {
+        station.tables.modulators.remove(id.0).expect(LIVES);
+        station.modulators.remove(&id.0);
+        "ok".to_string()
+    })
 }
 
-fn set_generation(mut words: Words, station: &Station) -> Option<String> {
+fn set_generation(mut words: Words, station: &mut Station) -> Option<String> {
     let id = words.modulator_id()?;
     words.end()?;
     let set = station.tables.modulators.controller().set_generation(id.0);
-    set.then(|| "ok".to_string())
+    set.then(|| {
+        station.given_modulators.count_up_to(id.0);
+        "ok".to_string()
+    })
 }

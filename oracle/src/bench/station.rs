@@ -12,6 +12,8 @@ use crate::{
     modulator::{Modulator, lfo::LfoHandle, tweener::TweenerHandle},
 };
 
+use super::given::Given;
+
 const SLOTS: usize = 16;
 
 /// What an update sees.
@@ -34,6 +36,20 @@ pub(super) enum ModulatorHandle {
 }
 
 impl ModulatorHandle {
+    pub(super) fn tweener(&mut self) -> Option<&mut TweenerHandle> {
+        match self {
+            Self::Tweener(tweener) => Some(tweener),
+            Self::Lfo(_) => None,
+        }
+    }
+
+    pub(super) fn lfo(&mut self) -> Option<&mut LfoHandle> {
+        match self {
+            Self::Tweener(_) => None,
+            Self::Lfo(lfo) => Some(lfo),
+        }
+    }
+
     pub(super) fn update(&mut self, dt: f64, info: &Info) {
         match self {
             Self::Tweener(tweener) => tweener.update(dt, info),
@@ -49,11 +65,16 @@ impl ModulatorHandle {
     }
 }
 
+/// An id that has a handle is in its table too.
+pub(super) const LIVES: &str = "what has a handle lives";
+
 /// Everything that calls act on. Handles live as long as what they name.
 pub(super) struct Station {
     pub(super) tables: Tables,
     pub(super) clocks: HashMap<Key, ClockHandle>,
     pub(super) modulators: HashMap<Key, ModulatorHandle>,
+    pub(super) given_clocks: Given,
+    pub(super) given_modulators: Given,
     pub(super) floats: [Option<Parameter<f64>>; SLOTS],
     pub(super) speeds: [Option<Parameter<ClockSpeed>>; SLOTS],
 }
@@ -68,6 +89,8 @@ impl Station {
             },
             clocks: HashMap::new(),
             modulators: HashMap::new(),
+            given_clocks: Given::default(),
+            given_modulators: Given::default(),
             floats: Default::default(),
             speeds: Default::default(),
         }

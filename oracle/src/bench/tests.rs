@@ -1,5 +1,7 @@
 //! The customer's worked rows and the line rules, through the whole of the bench.
 
+mod ids;
+
 use super::{answer, station::Station};
 
 fn answers(lines: &str) -> Vec<String> {

@@ -5,6 +5,7 @@ mod damage;
 mod doubles;
 mod floats;
 mod grammar;
+mod ids;
 mod leaves;
 mod less;
 mod limits;
@@ -13,6 +14,7 @@ mod powers;
 mod random;
 mod shift;
 mod station;
+mod table;
 mod times;
 
 use std::{
@@ -24,7 +26,8 @@ use std::{
 use random::Random;
 
 const USAGE: &str = "usage: generate FAMILY SEED COUNT [--powers MOST] [--random]
-FAMILY is floats, times, less, nanos, powers, station or shift. Powers that are accepted go to MOST, 1 to 16, or to 16.
+FAMILY is floats, times, less, nanos, powers, station, shift or ids. Powers that are accepted go to MOST, 1 to 16,
+or to 16.
 COUNT is of all lines, or with --random of those behind the damaged lines and the limits.";
 
 /// One in this many lines is damaged, about 3 in 100.
@@ -77,6 +80,7 @@ fn read_arguments(words: &[String]) -> Option<(Family, u64, u64)> {
         "powers" => powers::family(),
         "station" => station::family(powers),
         "shift" => shift::family(powers),
+        "ids" => ids::family(powers),
         _ => return None,
     };
     Some((family, seed.parse().ok()?, count.parse().ok()?))

@@ -4,9 +4,12 @@
 
 use std::{cell::RefCell, collections::VecDeque};
 
-use super::{Family, grammar::Grammar, random::Random};
-
-const SLOTS: usize = 16;
+use super::{
+    Family,
+    grammar::Grammar,
+    random::Random,
+    table::{FRESH, Kind, SLOTS, Table, take},
+};
 
 /// About how many beats one station sees.
 const BEATS: u64 = 120;
@@ -17,51 +20,24 @@ const LIMIT: u64 = 400;
 /// One id in this many is an old one, or one that was never given.
 const STRANGE: u64 = 16;
 
-/// What a slot holds.
-#[derive(Clone, Copy, PartialEq)]
-enum Kind {
-    Empty,
-    Clock,
-    Tweener,
-    Lfo,
-}
-
-#[derive(Clone, Copy)]
-struct Slot {
-    kind: Kind,
-    generation: u32,
-}
-
 struct Shift {
     grammar: Grammar,
-    clocks: [Slot; SLOTS],
-    modulators: [Slot; SLOTS],
+    clocks: Table,
+    modulators: Table,
     lines: VecDeque<String>,
 }
 
 pub(super) fn family(powers: u64) -> Family {
-    let free = Slot {
-        kind: Kind::Empty,
-        generation: 0,
-    };
     let grammar = Grammar { powers, near: true };
     let shift = RefCell::new(Shift {
         grammar,
-        clocks: [free; SLOTS],
-        modulators: [free; SLOTS],
+        clocks: FRESH,
+        modulators: FRESH,
         lines: VecDeque::new(),
     });
     Family {
         limits: vec!["new".to_string()],
         random: Box::new(move |random| shift.borrow_mut().line(random)),
-    }
-}
-
-/// The slot that an add takes, as document 01 has it. No run comes to the last generation.
-fn take(table: &mut [Slot; SLOTS], kind: Kind) {
-    if let Some(slot) = table.iter_mut().find(|slot| slot.kind == Kind::Empty) {
-        slot.kind = kind;
-        slot.generation += 1;
     }
 }
 
@@ -83,12 +59,8 @@ impl Shift {
     }
 
     fn begin(&mut self, random: &mut Random) {
-        let free = Slot {
-            kind: Kind::Empty,
-            generation: 0,
-        };
-        self.clocks = [free; SLOTS];
-        self.modulators = [free; SLOTS];
+        self.clocks = FRESH;
+        self.modulators = FRESH;
         self.lines.push_back("new".to_string());
         for _ in 0..1 + random.below(SLOTS as u64) {
             self.add_modulator(random);

@@ -176,7 +176,7 @@ fn reports() -> Vec<String> {
     lines
 }
 
-/// Seventeen clocks and modulators, one removed, and one more.
+/// Seventeen clocks and modulators, one removed, and one more; then ids that are dead or were never given.
 fn full_table() -> Vec<String> {
     let mut lines = texts(&["new"]);
     for _ in 0..17 {
@@ -194,6 +194,13 @@ fn full_table() -> Vec<String> {
         "clock.time 7:2",
         "mod.value 15:1",
         "mod.value 15:2",
+        "clock.drop 7:2",
+        "clock.time 7:2",
+        "clock.time 7:0",
+        "clock.time 7:3",
+        "clock.time 16:1",
+        "lfo.wave 14:1 tri",
+        "lfo.wave 15:1 tri",
         "frame 3ff0000000000000",
     ]));
     lines

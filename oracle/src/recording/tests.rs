@@ -204,16 +204,35 @@ fn a_call_is_refused_with_its_number_and_its_record() {
         refused(&record("add", 0, 1, speed), 3, 0);
         refused(&(ADD.to_string() + &record("speed", 0, 1, speed)), 3, 1);
     }
-    for op in ["drop", "start", "stop", "reset"] {
-        refused(&record(op, 0, 1, 0.0), 7, 0);
-        refused(&(ADD.to_string() + &record(op, 0, 0, 0.0)), 7, 1);
-        refused(&(ADD.to_string() + &record(op, 0, 2, 0.0)), 7, 1);
-        refused(&(ADD.to_string() + &record(op, 1, 1, 0.0)), 7, 1);
-    }
-    refused(&record("speed", 0, 1, f64::NAN), 7, 0);
     let adds: String = (0..16).map(|slot| record("add", slot, 1, 1.0)).collect();
     assert!(replay(adds.as_bytes()).is_ok());
     refused(&(adds + &record("add", 0, 1, 1.0)), 8, 16);
+}
+
+/// A clock that was dropped is dead, and so are all before it in its slot; every other id was never given.
+#[test]
+fn an_id_that_does_not_live_is_dead_or_was_never_given() {
+    let dropped = ADD.to_string() + &record("drop", 0, 1, 0.0);
+    let again = dropped.clone() + &record("add", 0, 2, 1.0);
+    // A speed that is bad too comes behind its id.
+    for (op, arg) in ["drop", "start", "stop", "reset"]
+        .map(|op| (op, 0.0))
+        .into_iter()
+        .chain([("speed", 5.0), ("speed", f64::NAN)])
+    {
+        let last = |slot, generation| record(op, slot, generation, arg);
+        refused(&last(0, 1), 15, 0);
+        refused(&last(0, 0), 15, 0);
+        for (slot, generation) in [(0, 0), (0, 2), (1, 1), (15, 4_294_967_295)] {
+            refused(&(ADD.to_string() + &last(slot, generation)), 15, 1);
+        }
+        refused(&(dropped.clone() + &last(0, 0)), 15, 2);
+        refused(&(dropped.clone() + &last(0, 1)), 7, 2);
+        refused(&(dropped.clone() + &last(0, 2)), 15, 2);
+        refused(&(again.clone() + &last(0, 1)), 7, 3);
+        refused(&(again.clone() + &last(0, 3)), 15, 3);
+        refused(&(again.clone() + &last(1, 1)), 15, 3);
+    }
 }
 
 #[test]
@@ -261,7 +280,7 @@ fn one_record_is_judged_in_order_and_the_first_refusal_is_the_answer() {
     refused(&(adds + &record("add", 3, 7, 1.0)), 8, 16);
     // An earlier record before a later one, and a call before the lines behind it.
     refused(&(record("add", 9, 9, 1.0) + "x\n"), 14, 0);
-    refused(&(record("stop", 0, 1, 0.0) + "\n"), 7, 0);
+    refused(&(record("stop", 0, 1, 0.0) + "\n"), 15, 0);
     trace(
         &(ADD.to_string() + "\n" + &record("stop", 0, 9, 0.0)),
         ADD.len(),
@@ -286,6 +305,7 @@ fn a_refusal_says_its_number_and_its_place() {
         (Refusal::Trace(64), 13, "refused 13 at byte 64\n"),
         (Refusal::Call(9, 2), 9, "refused 9 in record 2\n"),
         (Refusal::Call(14, 0), 14, "refused 14 in record 0\n"),
+        (Refusal::Call(15, 7), 15, "refused 15 in record 7\n"),
     ];
     for (refusal, number, place) in rows {
         assert_eq!(

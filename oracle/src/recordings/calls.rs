@@ -85,9 +85,12 @@ fn speeds() -> Vec<Vec<u8>> {
     made
 }
 
-/// Every op with ids that live, were dropped, or were never given: 0 and 1 live, and 2 was dropped.
+/// Every op with ids that live, were dropped, or were never given: 0 lives for the second time and 1 for the first, and
+/// 2 was dropped twice.
 fn ids() -> Vec<Vec<u8>> {
-    let station = [add(0), add(1), add(2), record("drop", 2, 1, 0.0)].concat();
+    let again = |slot| [record("drop", slot, 1, 0.0), record("add", slot, 2, 5.0)].concat();
+    let dropped = record("drop", 2, 2, 0.0);
+    let station = [add(0), again(0), add(1), add(2), again(2), dropped].concat();
     let mut made = Vec::new();
     for op in ["add", "drop", "start", "stop", "reset", "speed"] {
         for slot in [0, 1, 2, 3, 15] {
@@ -153,10 +156,12 @@ fn too_far() -> Vec<Vec<u8>> {
 }
 
 /// A refusal is followed by others, and the first is the answer. One station has room, so that an add gives another id
-/// than its record has, and one has none; on both the first clock goes too far in a minute.
+/// than its record has, and one has none; on both the first clock goes too far in a minute, and 1:1 is dead.
 fn orders() -> Vec<Vec<u8>> {
     let fast = [record("add", 0, 1, 1_048_576.0), start(0)].concat();
-    let full = [fast.clone(), (1..SLOTS).flat_map(add).collect()].concat();
+    let fast = [fast, add(1), record("drop", 1, 1, 0.0)].concat();
+    let again = record("add", 1, 2, 5.0);
+    let full = [fast.clone(), again, (2..SLOTS).flat_map(add).collect()].concat();
     let refused = [
         record("frame", 0, 0, -0.0),
         record("frame", 0, 0, 60.0),
@@ -164,6 +169,7 @@ fn orders() -> Vec<Vec<u8>> {
         record("speed", 5, 9, f64::NAN),
         record("speed", 0, 1, f64::NAN),
         record("stop", 5, 9, 0.0),
+        record("stop", 1, 1, 0.0),
         record("add", 5, 9, 1.0),
         b"op=stop\nslot=5\ngen=9\narg=0000000000000001\n".to_vec(),
         b"op=add\nslot=5\ngen=9\narg=7FF8000000000000\n".to_vec(),

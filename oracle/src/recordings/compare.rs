@@ -164,7 +164,7 @@ fn shortened(
     let mut trials = 0;
     let mut piece = parts.len();
     while piece > 0 {
-        let mut at = 0;
+        let (mut at, before) = (0, parts.len());
         while at < parts.len() && trials < TRIALS {
             trials += 1;
             let end = parts.len().min(at + piece);
@@ -174,7 +174,10 @@ fn shortened(
                 false => at = end,
             }
         }
-        piece /= 2;
+        // What was kept for a later record's sake may be needless once that is left out.
+        if parts.len() == before {
+            piece /= 2;
+        }
     }
     Ok(parts.concat())
 }
@@ -192,5 +195,20 @@ mod tests {
         let needed = |shorter: &[u8]| Ok(shorter.contains(&b'b') && shorter.contains(&b'f'));
         let short = shortened(recording.into_bytes(), needed).expect("memory does not fail");
         assert_eq!(short, b"b\nb\nb\nb\nf\nf\nf\nf\n");
+    }
+
+    /// A start needs its add, and a drop too; both go before what they need can go.
+    #[test]
+    fn records_that_matter_no_more_are_left_out() {
+        let letters = ["a", "s", "b", "d", "x", "y"];
+        let recording: String = letters
+            .map(|letter| format!("{letter}\n").repeat(4))
+            .concat();
+        let needed = |shorter: &[u8]| {
+            let has = |letter| shorter.contains(&letter);
+            Ok(has(b'x') && (has(b'a') || !has(b's')) && (has(b'b') || !has(b'd')))
+        };
+        let short = shortened(recording.into_bytes(), needed).expect("memory does not fail");
+        assert_eq!(short, b"x\nx\nx\nx\n");
     }
 }

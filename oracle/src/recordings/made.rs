@@ -60,8 +60,8 @@ mod tests {
     use crate::recording;
 
     /// The number of times that each refusal comes in a part; 0 stands for none.
-    fn numbers(made: &Made, part: impl Iterator<Item = usize>) -> [usize; 15] {
-        let mut counts = [0; 15];
+    fn numbers(made: &Made, part: impl Iterator<Item = usize>) -> [usize; 16] {
+        let mut counts = [0; 16];
         for number in part {
             let recording = made.get(number).expect("there is such a one");
             let refused = recording::replay(&recording).err();
@@ -74,7 +74,7 @@ mod tests {
     fn the_fixed_part_has_every_answer() {
         let made = Made::new(1, 0);
         let counts = numbers(&made, 0..made.fixed());
-        for number in [0, 1, 3, 7, 8, 9, 11, 13, 14] {
+        for number in [0, 1, 3, 7, 8, 9, 11, 13, 14, 15] {
             assert!(counts[number] > 3, "{number}: {counts:?}");
         }
     }
@@ -84,7 +84,8 @@ mod tests {
         let made = Made::new(7, 1000);
         let counts = numbers(&made, made.fixed()..made.total());
         assert!(counts[0] > 500, "{counts:?}");
-        assert!(counts[13] > 100 && counts[7] > 10, "{counts:?}");
+        assert!(counts[13] > 100, "{counts:?}");
+        assert!(counts[7] > 10 && counts[15] > 10, "{counts:?}");
     }
 
     #[test]

@@ -102,10 +102,25 @@ impl Run {
         (slot, self.slots[slot].generation)
     }
 
+    /// Mostly one that is dead, where there are such ones; else one near a slot's generation.
     fn strange(&self, random: &mut Random) -> (usize, u64) {
+        let dead = self.dead();
+        if !dead.is_empty() && !random.chance(4) {
+            return random.pick(&dead);
+        }
         let slot = random.index(SLOTS);
         let near = self.slots[slot].generation + random.below(3);
         (slot, near.saturating_sub(1))
+    }
+
+    /// Every id that was dropped.
+    fn dead(&self) -> Vec<(usize, u64)> {
+        let mut dead = Vec::new();
+        for (number, slot) in self.slots.iter().enumerate() {
+            let last = slot.generation - u64::from(slot.lives);
+            dead.extend((1..=last).map(|generation| (number, generation)));
+        }
+        dead
     }
 }
 

@@ -3,7 +3,7 @@ use Prim.Native.Nat.{ℕ, _<_}
 use native.Mathlib.Omega.{arith}
 use mathlib.Core.Path.{ap, _∙_}
 use Rattle.judge.specs.Answer.{accepted, refused}
-use Rattle.judge.specs.Numbers.{«NO_SUCH»}
+use Rattle.judge.specs.Numbers.{«NEVER_ISSUED»}
 use Rattle.ids.specs.Lists.{readAt}
 use Rattle.ids.proofs.Places.{some-slot, living, missing, living-read}
 use Rattle.clock_table.specs.ClockTables.{inSlot, lookOf}
@@ -34,8 +34,8 @@ returns-2 c =
     let f = test .before .before in
     let v = living _ _ _ (sizes f .keys) (f .find .ensures) (test .if1 .left) in
     rw (v .is)
-    (living-read _ _ _ (sizes f .keys) (f .find .ensures) (test .if1 .left) (refused «NO_SUCH») (λ (x : Clock). accepted (inSlot (f .find .result .slot) x)) _ _ (sizes f .clocks)
-    ∙ ap (λ (i : ℕ). readAt (refused «NO_SUCH») (λ (x : Clock). accepted (inSlot i x)) (start f .args .t1 .clocks) (start f .args .id .slot)) (v .here))
+    (living-read _ _ _ (sizes f .keys) (f .find .ensures) (test .if1 .left) (refused «NEVER_ISSUED») (λ (x : Clock). accepted (inSlot (f .find .result .slot) x)) _ _ (sizes f .clocks)
+    ∙ ap (λ (i : ℕ). readAt (refused «NEVER_ISSUED») (λ (x : Clock). accepted (inSlot i x)) (start f .args .t1 .clocks) (start f .args .id .slot)) (v .here))
 
 pub look-spec : {M : Type 1} → statement M
 look-spec =

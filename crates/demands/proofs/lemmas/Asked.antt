@@ -9,7 +9,7 @@ use lib.Dec.{eqb}
 use borrow.Author.Tests.{eqb-true, eqb-false}
 use Rattle.judge.specs.Answer.{accepted, refused, numberTold}
 use Rattle.judge.specs.Judge.{Conditions, ofId, ofTurn, numberOf, firstFault, answered}
-use Rattle.judge.specs.Numbers.{«NO_SUCH», «TOO_FAR», «TICKS_FULL»}
+use Rattle.judge.specs.Numbers.{«GONE», «TOO_FAR», «TICKS_FULL», «NEVER_ISSUED»}
 use Rattle.judge.proofs.Judged.{arguments-first}
 use Rattle.judge.specs.declared.Faults.{Faults}
 use Rattle.laws.specs.SoundStation.{All}
@@ -74,9 +74,9 @@ pub told-given : {A : Type 0} (c : Conditions) (x : A) → numberTold (answered 
 told-given c x = judged-number numberTold (accepted x) (refused (numberOf c)) (numberOf c) refl refl ∙ sym (all-given c)
 
 -- an id, and the faults of what comes with it
-pub id-given : (m : Bool) (f : Faults) → firstIn order (holds (ofId m f)) ≡ cond m «NO_SUCH» (firstFault f)
+pub id-given : (g n : Bool) (f : Faults) → firstIn order (holds (ofId g n f)) ≡ cond g «GONE» (cond n «NEVER_ISSUED» (firstFault f))
 unfolding firstIn firstFault
-id-given m f = refl
+id-given g n f = refl
 
 -- a clock's turn, and a frame
 pub turn-given : (f : Faults) (far full : Bool) → firstIn order (holds (ofTurn f far full)) ≡ cond (eqb (firstFault f) 0) (cond far «TOO_FAR» (cond full «TICKS_FULL» 0)) (firstFault f)

@@ -1,25 +1,29 @@
--- An id by which a call looks for an entry names none, or lives and has one, where no key is without an entry; and a
--- table has room, or every slot is occupied or retired. RULES, living-id and no-room. Assumes nothing.
+-- An id by which a call looks for an entry is refused by its own number, or lives and has one, where no key is without
+-- an entry; and a table has room, or every slot is occupied or retired. RULES, gone, never-issued and no-room. Assumes
+-- nothing.
 use Prim.Native.Nat.{ℕ, zero, suc, _+_, _≤_, _<_}
 use native.Mathlib.Nat.{not-suc-le-zero, le-of-suc-le-suc}
+use native.Mathlib.Decide.{decLe}
 use native.Mathlib.Omega.{arith}
 use mathlib.Core.Path.{_≡_, refl, sym, ap, _∙_}
 use mathlib.Core.Bool.{Bool, true, false, not, _&&_, _||_, cond, true≢false}
 use mathlib.Core.List.{List, [], _∷_}
 use lib.ListN.{length}
 use lib.Dec.{ltb, eqb}
-use borrow.Author.Tests.{eqb-true}
-use Rattle.ids.specs.Keys.{Place, place, roomAt, freeOf, livesIn, noSuch, findOf}
+use borrow.Author.Tests.{eqb-true, le-leb, lt-leb, le-ltb, lt-ltb, ne-eqb}
+use Rattle.ids.specs.Keys.{Place, place, roomAt, freeOf, livesIn, generationAt, wasGiven, findOf}
 use Rattle.ids.specs.Lists.{readAt}
 use Rattle.ids.specs.Tables.{Table, Added, refusedAdd, placedIn, addedIn, addedTo}
 use Rattle.ids.specs.declared.Key.{Key}
 use Rattle.judge.specs.Answer.{Answer, accepted, refused, isRefused, numberTold, onAccepted}
 use Rattle.judge.specs.Judge.{Conditions, ofAdd, numberOf}
+use Rattle.judge.specs.Numbers.{«GONE», «NEVER_ISSUED»}
 use Rattle.judge.specs.declared.Faults.{Faults}
 use Rattle.judge.proofs.Judged.{nothing-wrong}
-use Rattle.ids.proofs.Places.{lives-inside}
+use Rattle.ids.proofs.Places.{read-past, lives-inside, missingNumber, find-living, find-missing}
 use Rattle.laws.proofs.lemmas.Entries.{Holds}
-use Rattle.demands.specs.Conditions.{everyTaken}
+use Rattle.demands.specs.Conditions.{strange, goneIn, neverIn, everyTaken}
+use Rattle.demands.specs.Entries.{Sized}
 use Rattle.demands.specs.Order.{order, holds, firstIn}
 use Rattle.demands.proofs.lemmas.Asked.{judged-number, all-given}
 
@@ -30,18 +34,52 @@ inside-holds [] i h = absurd (not-suc-le-zero h)
 inside-holds (x ∷ l) zero h = (x, refl)
 inside-holds (x ∷ l) (suc i) h = inside-holds l i (le-of-suc-le-suc h)
 
-module _ {A : Type 0} (ks : List Key) (es : List A) (w : length ks ≤ length es) (i g : ℕ) {P : Type 0} where
-  -- no entry is found; or the id lives, and its slot is found
-  pub entry-case : (livesIn ks i g ≡ false → findOf ks i g ≡ noSuch → P) → (livesIn ks i g ≡ true → findOf ks i g ≡ accepted i → (x : A) → Holds es i x → P) → P
-  unfolding findOf
+-- ---- an id
+
+module _ (ks : List Key) (i g : ℕ) where
+  -- the number by the conditions of the id, or else n
+  abbrev pub byId : ℕ → ℕ
+  byId n = cond (goneIn ks i g) «GONE» (cond (neverIn ks i g) «NEVER_ISSUED» n)
+
+  -- where the table has no more than 16 slots, an id is strange exactly where its slot has not given it
+  pub strange-is : length ks ≤ 16 → not (strange ks i g) ≡ wasGiven (generationAt ks i) g
+  strange-is s = go g (decLe g (generationAt ks i)) (decLe 16 i)
+    where
+      inside : (h : ℕ) → 16 ≤ i → suc h ≤ generationAt ks i → ⊥
+      inside h o p = omega (arith, p, read-past 0 (λ (k : Key). k .generation) ks i (omega (arith, s, o)))
+
+      go : (g : ℕ) → Dec (g ≤ generationAt ks i) → Dec (16 ≤ i) → not (strange ks i g) ≡ wasGiven (generationAt ks i) g
+      go zero d o = refl
+      go (suc h) (yes p) (yes o) = absurd (inside h o p)
+      go (suc h) (yes p) (no n) =
+          rw (ne-eqb (suc h) 0 (λ e. omega arith), le-leb 1 (suc h) (omega arith), le-leb (suc h) (generationAt ks i) p, le-ltb (generationAt ks i) (suc h) p, lt-ltb i 16 (omega (arith, n)))
+      go (suc h) (no n) o =
+          rw (ne-eqb (suc h) 0 (λ e. omega arith), le-leb 1 (suc h) (omega arith), lt-leb (suc h) (generationAt ks i) (omega (arith, n)), lt-ltb (generationAt ks i) (suc h) (omega (arith, n)))
+
+  -- an id that does not live decides, whatever n comes behind it
+  pub by-missing : length ks ≤ 16 → livesIn ks i g ≡ false → (n : ℕ) → byId n ≡ missingNumber ks i g
+  by-missing s l n = rw l (go (strange ks i g) (strange-is s))
+    where
+      go : (b : Bool) → not b ≡ wasGiven (generationAt ks i) g → cond (not b) «GONE» (cond b «NEVER_ISSUED» n) ≡ missingNumber ks i g
+      go true e = rw (← e)
+      go false e = rw (← e)
+
+  pub by-living : livesIn ks i g ≡ true → (n : ℕ) → byId n ≡ n
+  by-living l n = rw l
+
+module _ {A : Type 0} (ks : List Key) (es : List A) (w : Sized ks es) (i g : ℕ) {P : Type 0} where
+  -- the lookup refuses by the id's own number; or the id lives, and its slot is found
+  pub entry-case :
+      (findOf ks i g ≡ refused (missingNumber ks i g) → ((n : ℕ) → byId ks i g n ≡ missingNumber ks i g) → P)
+      → (livesIn ks i g ≡ true → findOf ks i g ≡ accepted i → (x : A) → Holds es i x → P) → P
   entry-case n h = go (livesIn ks i g) refl
     where
       go : (b : Bool) → livesIn ks i g ≡ b → P
       go true l =
           let k : i < length ks = lives-inside ks i g l in
-          let e = inside-holds es i (omega arith) in
-          h l (rw l) (e .0) (e .1)
-      go false l = n l (rw l)
+          let e = inside-holds es i (omega (arith, k, w .filled)) in
+          h l (find-living ks i g l) (e .0) (e .1)
+      go false l = n (find-missing ks i g l) (by-missing ks i g (w .most) l)
 
 -- ---- room
 

@@ -15,8 +15,9 @@ use Rattle.doubles.specs.Intervals.{Between}
 use Rattle.doubles.proofs.Unit.{le-same, le-of-lt, le-of-not-lt, between-is, between-finite, finite-is, on-of-between, add-mono, mul-mono}
 use Rattle.ids.specs.Keys.{Place, place, freeOf, livesIn}
 use Rattle.judge.specs.Answer.{Answer, accepted, refused, isRefused}
-use Rattle.judge.specs.Numbers.{«NO_SUCH»}
+use Rattle.judge.specs.Numbers.{«NEVER_ISSUED»}
 use Rattle.ids.proofs.Names as names
+use Rattle.ids.proofs.Places.{found-case}
 use Rattle.ticks.specs.WholeTicks.{roomFor, takenOf}
 use Rattle.ticks.specs.declared.Position.{Position}
 use Rattle.ticks.proofs.Parts.{ticksOf}
@@ -45,7 +46,7 @@ use Rattle.laws.specs.Sound.{SpeedDoubles, SoundInput, SoundSpeed}
 use Rattle.laws.specs.SoundStation.{SoundPosition, SoundClock, SoundClocks, ClockDoubles}
 use Rattle.laws.proofs.lemmas.Accepted.{dt-range, add-case}
 use Rattle.laws.proofs.lemmas.Clear.{fraction-of, fraction-range, add-clear, fract-clear}
-use Rattle.laws.proofs.lemmas.Deeds.{cond-case, found-case}
+use Rattle.laws.proofs.lemmas.Deeds.{cond-case}
 use Rattle.laws.proofs.lemmas.Every.{all-set, all-read}
 use Rattle.laws.proofs.lemmas.Speeds.{new-sound, update-sound, change-sound, sound-rate}
 
@@ -163,8 +164,8 @@ module _ (t : Clocks) (s : SoundClocks t) where
         (f : ℕ → Clock → ClockDone) → ((c : Clock) → livesIn (t .keys) (id .slot) (id .generation) ≡ true → SoundClock c → SoundClocks (f (id .slot) c .table))
         → SoundClocks (onFound clockTable t (whereIs clockTable t id) f .table)
     on-found f h =
-        found-case (λ w. SoundClocks (onFound clockTable t w f .table)) (t .keys) (id .slot) (id .generation) s (λ l.
-        all-read SoundClock (λ (r : ClockDone). SoundClocks (r .table)) (refusedCall clockTable t «NO_SUCH») (f (id .slot)) s (λ c k. h c l k) (t .clocks) (id .slot) (s .entries))
+        found-case (t .keys) (id .slot) (id .generation) (λ w. SoundClocks (onFound clockTable t w f .table)) (λ n z l. s) (λ l.
+        all-read SoundClock (λ (r : ClockDone). SoundClocks (r .table)) (refusedCall clockTable t «NEVER_ISSUED») (f (id .slot)) s (λ c k. h c l k) (t .clocks) (id .slot) (s .entries))
 
     -- by a clock that is sound where the one that was there is
     remade : (f : Clock → Clock) → ((c : Clock) → SoundClock c → SoundClock (f c)) → SoundClocks (onFound clockTable t (whereIs clockTable t id) (λ i c. changed clockTable t i (f c)) .table)

@@ -8,13 +8,14 @@ use mathlib.Core.List.{List, [], _∷_}
 use lib.ListN.{set}
 use lib.Dec.{eqb}
 use lib.Ieee.{Float}
-use Rattle.ids.specs.Keys.{Place, place, roomAt, freeOf, livesIn, noSuch, findOf, takenAt, leftAt}
+use Rattle.ids.specs.Keys.{Place, place, roomAt, freeOf, livesIn, takenAt, leftAt}
 use Rattle.ids.specs.Lists.{readAt}
 use Rattle.ids.specs.Tables.{Added, placedIn, changed, freed, onFound, refusedAdd, refusedCall, whereIs}
 use Rattle.ids.specs.declared.Key.{Key}
+use Rattle.ids.proofs.Places.{found-case}
 use Rattle.judge.specs.Answer.{Answer, accepted, refused, isRefused, onAccepted}
 use Rattle.judge.specs.Judge.{ofAdd, numberOf, floatFaults, dtFaults, firstFault}
-use Rattle.judge.specs.Numbers.{«NO_SUCH»}
+use Rattle.judge.specs.Numbers.{«NEVER_ISSUED»}
 use Rattle.judge.specs.declared.Faults.{Faults}
 use Rattle.times.specs.declared.time.ClockId.{ClockId}
 use Rattle.times.specs.declared.time.ClockTime.{ClockTime}
@@ -68,19 +69,11 @@ pub data Deed {A : Type 0} (k : Kind) (ks : List Key) (es : List A) : Target →
   adds : (i g : ℕ) (x : A) → freeOf 0 ks ≡ roomAt i g → Deed k ks es none (named k i g) (set ks i (takenAt g)) (set es i x)
   turns : (fs : List A) → Deed k ks es all done ks fs
 
--- ---- a test, and a lookup
+-- ---- a test, and an entry
 
 pub cond-case : {A : Type 0} (P : A → Type 0) (x y : A) → P x → P y → (b : Bool) → P (cond b x y)
 cond-case P x y p q true = p
 cond-case P x y p q false = q
-
-pub found-case : (P : Answer ℕ → Type 0) (ks : List Key) (i g : ℕ) → P noSuch → (livesIn ks i g ≡ true → P (accepted i)) → P (findOf ks i g)
-unfolding findOf
-found-case P ks i g n h = go (livesIn ks i g) refl
-  where
-    go : (b : Bool) → livesIn ks i g ≡ b → P (cond b (accepted i) noSuch)
-    go true l = h l
-    go false l = n
 
 pub read-case : {A B : Type 0} (P : B → Type 0) (n : B) (f : A → B) → P n → ((x : A) → P (f x)) → (l : List A) (i : ℕ) → P (readAt n f l i)
 unfolding readAt
@@ -160,8 +153,8 @@ module _ (t : Clocks) where
 
     on-clock : (f : ℕ → Clock → ClockDone) → ((c : Clock) → ClockAlive → OnClock (f (id .slot) c)) → OnClock (onFound clocks.clockTable t (whereIs clocks.clockTable t id) f)
     on-clock f h =
-        found-case (λ w. OnClock (onFound clocks.clockTable t w f)) (t .keys) (id .slot) (id .generation) (clock-refused _ «NO_SUCH») (λ l.
-        read-case OnClock (refusedCall clocks.clockTable t «NO_SUCH») (f (id .slot)) (clock-refused _ «NO_SUCH») (λ c. h c l) (t .clocks) (id .slot))
+        found-case (t .keys) (id .slot) (id .generation) (λ w. OnClock (onFound clocks.clockTable t w f)) (λ n z l. clock-refused _ n) (λ l.
+        read-case OnClock (refusedCall clocks.clockTable t «NEVER_ISSUED») (f (id .slot)) (clock-refused _ «NEVER_ISSUED») (λ c. h c l) (t .clocks) (id .slot))
 
     -- changed where a number is 0, and refused by it elsewhere
     clock-changed : (n : ℕ) (c : Clock) → ClockAlive → OnClock (cond (eqb n 0) (changed clocks.clockTable t (id .slot) c) (refusedCall clocks.clockTable t n))
@@ -224,8 +217,8 @@ module _ (t : Modulators) where
 
     on-modulator : (f : ℕ → Modulator → ModulatorDone) → ((m : Modulator) → ModulatorAlive → OnModulator (f (id .slot) m)) → OnModulator (modulators.onModulator t (whereIs modulators.modulatorTable t id) f)
     on-modulator f h =
-        found-case (λ w. OnModulator (modulators.onModulator t w f)) (t .keys) (id .slot) (id .generation) (modulator-refused _ «NO_SUCH») (λ l.
-        read-case OnModulator (refusedCall modulators.modulatorTable t «NO_SUCH») (λ s. f (id .slot) (s .modulator)) (modulator-refused _ «NO_SUCH») (λ s. h (s .modulator) l) (t .slots) (id .slot))
+        found-case (t .keys) (id .slot) (id .generation) (λ w. OnModulator (modulators.onModulator t w f)) (λ n z l. modulator-refused _ n) (λ l.
+        read-case OnModulator (refusedCall modulators.modulatorTable t «NEVER_ISSUED») (λ s. f (id .slot) (s .modulator)) (modulator-refused _ «NEVER_ISSUED») (λ s. h (s .modulator) l) (t .slots) (id .slot))
 
     modulator-changed : (n : ℕ) (m : Modulator) → ModulatorAlive → OnModulator (setOr n m (id .slot))
     modulator-changed n m l =
@@ -237,13 +230,13 @@ module _ (t : Modulators) where
       where
         go : (m : Modulator) → ModulatorAlive → OnModulator (setTweener n to (id .slot) m)
         go (OfTweener old) l = modulator-changed n (to old) l
-        go (OfLfo old) l = modulator-refused _ «NO_SUCH»
+        go (OfLfo old) l = modulator-refused _ «NEVER_ISSUED»
 
     lfo-changed : (n : Lfo → ℕ) (to : Lfo → Modulator) → OnModulator (modulators.onModulator t (whereIs modulators.modulatorTable t id) (setLfo n to))
     lfo-changed n to = on-modulator (setLfo n to) go
       where
         go : (m : Modulator) → ModulatorAlive → OnModulator (setLfo n to (id .slot) m)
-        go (OfTweener old) l = modulator-refused _ «NO_SUCH»
+        go (OfTweener old) l = modulator-refused _ «NEVER_ISSUED»
         go (OfLfo old) l = modulator-changed (n old) (to old) l
 
   modulator-added : (f : Faults) (m : Modulator) → ModulatorDeed none (modulatorRuns.addedAs (modulators.putOf t f m))

@@ -7,12 +7,12 @@ use mathlib.Core.Bool.{Bool, true, false, _&&_, cond, false≢true}
 use mathlib.Core.List.{List, [], _∷_}
 use lib.ListN.{length, set}
 use lib.Dec.{eqb}
-use Rattle.ids.specs.Keys.{roomAt, freeOf, livesIn, noSuch, findOf, usedAt}
+use Rattle.ids.specs.Keys.{roomAt, freeOf, livesIn, usedAt}
 use Rattle.ids.specs.Lists.{readAt}
 use Rattle.ids.specs.declared.Key.{Key}
-use Rattle.ids.proofs.Places.{read-set-same, read-set-other, lives-parts, gives}
+use Rattle.ids.proofs.Places.{read-set-same, read-set-other, lives-parts, find-living, found-case, gives}
 use Rattle.judge.specs.Answer.{Answer, accepted, refused}
-use Rattle.judge.specs.Numbers.{«NO_SUCH»}
+use Rattle.judge.specs.Numbers.{«NEVER_ISSUED»}
 use Rattle.times.specs.declared.time.ClockId.{ClockId}
 use Rattle.ids.specs.Tables.{onFound, readFound, whereIs}
 use Rattle.clock_table.specs.ClockTables.{clockTable}
@@ -26,9 +26,9 @@ use Rattle.laws.proofs.lemmas.Deeds.{Deed, leaves, changes, removes, ad
 
 -- ---- a slot of a list
 
--- x stands in slot i; NO_SUCH is what a lookup past the end is refused by
+-- x stands in slot i; NEVER_ISSUED is what a lookup past the end is refused by
 abbrev pub Holds : {A : Type 0} → List A → ℕ → A → Type 0
-Holds l i x = readAt (refused «NO_SUCH») (λ y. accepted y) l i ≡ accepted x
+Holds l i x = readAt (refused «NEVER_ISSUED») (λ y. accepted y) l i ≡ accepted x
 
 module _ {A : Type 0} where
   pub holds-read : {B : Type 0} (n : B) (f : A → B) (l : List A) (i : ℕ) (x : A) → Holds l i x → readAt n f l i ≡ f x
@@ -44,10 +44,10 @@ module _ {A : Type 0} where
   holds-inside (y ∷ l) (suc i) x h = suc-le-suc (holds-inside l i x h)
 
   pub holds-same : (l : List A) (i : ℕ) (x y : A) → Holds l i x → Holds (set l i y) i y
-  holds-same l i x y h = read-set-same (refused «NO_SUCH») (λ z. accepted z) l i y (holds-inside l i x h)
+  holds-same l i x y h = read-set-same (refused «NEVER_ISSUED») (λ z. accepted z) l i y (holds-inside l i x h)
 
   pub holds-other : (l : List A) (i j : ℕ) (x y : A) → (j ≡ i → ⊥) → Holds l j x → Holds (set l i y) j x
-  holds-other l i j x y n h = read-set-other (refused «NO_SUCH») (λ z. accepted z) l i j y n ∙ h
+  holds-other l i j x y n h = read-set-other (refused «NEVER_ISSUED») (λ z. accepted z) l i j y n ∙ h
 
 -- ---- a call that acts elsewhere
 
@@ -88,20 +88,17 @@ module _ (t : Clocks) (id : ClockId) (c : Clock) where
 
   -- as a lookup tells it
   pub names-of : readFound clockTable t (whereIs clockTable t id) (λ x. x) ≡ accepted c → Names t id c
-  unfolding findOf
-  names-of = go (livesIn (t .keys) (id .slot) (id .generation)) refl
-    where
-      go : (b : Bool) → livesIn (t .keys) (id .slot) (id .generation) ≡ b → Tells (cond b (accepted (id .slot)) noSuch) → Names t id c
-      go true l e = record { lives = l; holds = e }
-      go false l e = let z : _≡_ {A = ℕ} 0 1 = cc in absurd (omega arith)
+  names-of =
+      found-case (t .keys) (id .slot) (id .generation) (λ w. Tells w → Names t id c)
+      (λ n y l e. let z : _≡_ {A = ℕ} 0 1 = cc in absurd (omega arith))
+      (λ l e. record { lives = l; holds = e })
 
   module _ (n : Names t id c) where
     pub names-where : whereIs clockTable t id ≡ accepted (id .slot)
-    unfolding findOf
-    names-where = rw (n .lives)
+    names-where = find-living (t .keys) (id .slot) (id .generation) (n .lives)
 
     pub names-read : {A : Type 0} (f : Clock → A) → readFound clockTable t (whereIs clockTable t id) f ≡ accepted (f c)
-    names-read f = rw names-where (holds-read (refused «NO_SUCH») (λ x. accepted (f x)) (t .clocks) (id .slot) c (n .holds))
+    names-read f = rw names-where (holds-read (refused «NEVER_ISSUED») (λ x. accepted (f x)) (t .clocks) (id .slot) c (n .holds))
 
     pub names-on : (f : ℕ → Clock → ClockDone) → onFound clockTable t (whereIs clockTable t id) f ≡ f (id .slot) c
     names-on f = rw names-where (holds-read _ (f (id .slot)) (t .clocks) (id .slot) c (n .holds))

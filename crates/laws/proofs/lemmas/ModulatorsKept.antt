@@ -13,8 +13,9 @@ use Rattle.doubles.specs.Doubles.{zeroF, oneF, twoF}
 use Rattle.doubles.proofs.Unit.{le-trans, between-wider}
 use Rattle.ids.specs.Keys.{Place, place, freeOf, livesIn}
 use Rattle.judge.specs.Answer.{Answer, accepted, refused, isRefused}
-use Rattle.judge.specs.Numbers.{«NO_SUCH»}
+use Rattle.judge.specs.Numbers.{«NEVER_ISSUED»}
 use Rattle.ids.proofs.Names as names
+use Rattle.ids.proofs.Places.{found-case}
 use Rattle.times.specs.Durations.{secondsOf}
 use Rattle.judge.specs.Judge.{noFaults, bothFaults, dtFaults, floatFaults, firstFault}
 use Rattle.judge.specs.declared.Faults.{Faults}
@@ -56,7 +57,6 @@ use Rattle.commands.specs.declared.modulator_command.ModulatorCommand.the-varia
 use Rattle.laws.specs.Sound.{Double, Within, Sized, SoundInput, SoundCourse, SoundFloat}
 use Rattle.laws.specs.SoundStation.{SoundMove, SoundTweener, SoundTweenerState, SoundWave, SoundLfo, SoundModulator, SoundSlot, SoundModulators, BuilderDoubles, ModulatorDoubles}
 use Rattle.laws.proofs.lemmas.Accepted.{no-faults, judged-case, add-case}
-use Rattle.laws.proofs.lemmas.Deeds.{found-case}
 use Rattle.laws.proofs.lemmas.Every.{all-set, all-read}
 use Rattle.laws.proofs.lemmas.Floats.{float-sized, new-sound, set-sound, update-sound}
 use Rattle.laws.proofs.lemmas.Signed.{within-finite, lerp-within}
@@ -201,8 +201,8 @@ module _ (t : Modulators) (s : SoundModulators t) where
         → ((m : Modulator) → livesIn (t .keys) (id .slot) (id .generation) ≡ true → SoundModulator m → SoundModulators (f (id .slot) m .table))
         → SoundModulators (onModulator t (whereIs modulatorTable t id) f .table)
     on-found f h =
-        found-case (λ w. SoundModulators (onModulator t w f .table)) (t .keys) (id .slot) (id .generation) s (λ l.
-        all-read SoundSlot (λ (r : ModulatorDone). SoundModulators (r .table)) (refusedCall modulatorTable t «NO_SUCH») (λ v. f (id .slot) (v .modulator)) s (λ v k. h (v .modulator) l k) (t .slots) (id .slot) (s .entries))
+        found-case (t .keys) (id .slot) (id .generation) (λ w. SoundModulators (onModulator t w f .table)) (λ n z l. s) (λ l.
+        all-read SoundSlot (λ (r : ModulatorDone). SoundModulators (r .table)) (refusedCall modulatorTable t «NEVER_ISSUED») (λ v. f (id .slot) (v .modulator)) s (λ v k. h (v .modulator) l k) (t .slots) (id .slot) (s .entries))
 
     tweener-sound : (f : ℕ → Tweener → ModulatorDone) → ((w : Tweener) → SoundTweener w → SoundModulators (f (id .slot) w .table)) → SoundModulators (onModulator t (whereIs modulatorTable t id) (λ i m. onTweener t m (f i)) .table)
     tweener-sound f h = on-found (λ i m. onTweener t m (f i)) (λ m l. go m)

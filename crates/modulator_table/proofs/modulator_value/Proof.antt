@@ -2,7 +2,7 @@
 use Prim.Native.Nat.{_<_}
 use native.Mathlib.Omega.{arith}
 use Rattle.judge.specs.Answer.{accepted, refused}
-use Rattle.judge.specs.Numbers.{«NO_SUCH»}
+use Rattle.judge.specs.Numbers.{«NEVER_ISSUED»}
 use Rattle.ids.proofs.Places.{Living, some-slot, living, missing, living-read}
 use Rattle.modulator_table.specs.ModulatorTables.{slotValue, modulatorValueOf}
 use Rattle.modulator_table.specs.declared.Slot.{Slot}
@@ -29,7 +29,7 @@ returns-2 c =
     let f = test .before .before in
     let n = sizes (f .before .before) in
     rw (living _ _ _ (n .keys) (f .find .ensures) (test .if1 .left) .is, c .slot-value .ensures)
-    (living-read _ _ _ (n .keys) (f .find .ensures) (test .if1 .left) (refused «NO_SUCH») (λ (x : Slot). accepted (slotValue x)) _ _ (n .slots))
+    (living-read _ _ _ (n .keys) (f .find .ensures) (test .if1 .left) (refused «NEVER_ISSUED») (λ (x : Slot). accepted (slotValue x)) _ _ (n .slots))
 
 pub modulator-value-spec : {M : Type 1} → statement M
 modulator-value-spec =
