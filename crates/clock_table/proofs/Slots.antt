@@ -27,7 +27,7 @@ use Rattle.clock_table.specs.ClockTables.{clockTable, InSlot, inSlot, to
 use Rattle.clock_table.specs.declared.Clocks.{Clocks}
 use Rattle.clock_table.specs.declared.Sped.{Sped}
 use Rattle.clock_table.specs.declared.Looked.{Looked}
-use Rattle.clock_table.specs.declared.Looked.the-variants.{At, Refused}
+use Rattle.clock_table.specs.declared.Looked.the-variants.{At}
 use Rattle.clock_table.proofs.Clocks.{the-type}
 
 pub record Sixteen (t : Clocks) : Type 0 where

@@ -6,8 +6,7 @@ use mathlib.Core.Path.{_≡_, refl, sym, ap, _∙_}
 use mathlib.Core.Bool.{Bool, true, false, cond, false≢true}
 use mathlib.Core.Logic.{_↔_}
 use mathlib.Core.List.{List}
-use lib.ListN.{length}
-use lib.Dec.{eqb, ltb}
+use lib.Dec.{eqb}
 use Rattle.ids.specs.Tables.{readFound}
 use Rattle.judge.specs.Answer.{Answer, accepted, refused, numberTold}
 use Rattle.judge.specs.Judge.{Conditions, ofArguments, bothFaults, dtFaults, floatFaults, numberOf, firstFault, decided, judged}
@@ -84,8 +83,9 @@ report-number st t id out =
 -- It speaks of numbers alone, not of what an accepted call does. The conditions of an argument's number are the very
 -- definitions that the entries' statements use (`dtFaults`, `setFaults`, ..), so a definition that forgot an argument
 -- would meet it: `limits` of `Limits`, some 1,400 rows at the limits of each argument, rules that out. Those of the
--- other numbers are written anew in `Conditions`, on what the definitions compute: whether an id lives; and in a frame
--- what a clock sees in its turn, its speed, its advance, its sum and the whole ticks of it.
+-- other numbers are written anew in `Conditions`, on what the definitions compute: whether an id lives, and the last
+-- generation of its slot; and in a frame what a clock sees in its turn, its speed, its advance, its sum and the whole
+-- ticks of it.
 pub number-given : (l : Lent) → Tables (l .station) → (e : Entry) → numberGiven l e ≡ firstIn order (holds (conditionsOf l e))
 unfolding floats.trySetOf speeds.trySetOf tryUpdateFloatIn tryUpdateSpeedIn floats.tryUpdateOf speeds.tryUpdateOf tryWhenToStartOf tryRawFloatIn tryRawSpeedIn tryUpdateOf floats.tryNewOf speeds.tryNewOf
 number-given l t (onStation c) = call-number (l .station) t c

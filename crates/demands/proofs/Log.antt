@@ -6,7 +6,7 @@ use native.Mathlib.Omega.{arith}
 use mathlib.Core.Path.{_≡_, refl, sym, subst, _∙_}
 use mathlib.Core.Bool.{Bool, true, false, not, _&&_, _||_, cond, false≢true}
 use mathlib.Core.Logic.{_⊎_, inl, inr, _↔_}
-use mathlib.Core.List.{List}
+use mathlib.Core.List.{List, []}
 use lib.ListN.{length}
 use Rattle.ids.specs.Keys.{livesIn, living, gone, neverIssued, standingOf}
 use Rattle.ids.specs.Lists.{readAt}
@@ -27,12 +27,12 @@ use Rattle.station.specs.declared.Station.{Station}
 use Rattle.laws.specs.Calls.{Call, clock, modulator, frame, afterAll, Kind, ofClock, ofModulator, lives, standing}
 use Rattle.laws.proofs.Issued.{issued-gone, gone-issued, never-unissued, unissued-never}
 use Rattle.laws.proofs.lemmas.Sizes.{Sixteen, SixteenSlots, run-sixteen, reached-sixteen, run-slots, reached-slots}
-use Rattle.demands.specs.Conditions.{strange, goneIn, neverIn, isTweener, isLfo, otherKind, byClock, byModulator, byKind, ofClocks, ofModulators, conditionsOf}
+use Rattle.demands.specs.Conditions.{ungiven, goneIn, neverIn, isTweener, isLfo, otherKind, byClock, byModulator, byKind, ofClocks, ofModulators, conditionsOf}
 use Rattle.demands.specs.Entries.{Lent, Tables, addTicks, subTicks, addFloat, subFloat, Entry, onStation, setFloat, setSpeed, updateFloat, updateSpeed, advanceFloat, advanceSpeed, report, when, readFloat, readSpeed, startIn, makeFloat, makeSpeed, shift, numberGiven}
 use Rattle.demands.specs.Log.{Named, noId, anyOf, kindOf, clockNamed, modulatorNamed, namedBy, OtherKind, IsGone, IsNever, Over, OursOver, NotOurs}
 use Rattle.demands.specs.Order.{among, before}
 use Rattle.demands.proofs.Exactly.{exactly}
-use Rattle.demands.proofs.lemmas.Lookups.{strange-is}
+use Rattle.demands.proofs.lemmas.Lookups.{ungiven-is}
 
 -- ---- the conditions of an id are what it is to its table
 
@@ -49,7 +49,7 @@ gone-never e = let z : _≡_ {A = ℕ} 0 1 = cc in omega arith
 module _ (ks : List Key) (i g : ℕ) (s : length ks ≤ 16) where
   gone-is : (goneIn ks i g ≡ true) ↔ (standingOf ks i g ≡ gone)
   unfolding standingOf
-  gone-is = rw (← strange-is ks i g s) (go (livesIn ks i g) (strange ks i g))
+  gone-is = rw (← ungiven-is ks i g s) (go (livesIn ks i g) (ungiven ks i g))
     where
       go : (l b : Bool) → ((not l && not b) ≡ true) ↔ (cond l living (cond (not b) gone neverIssued) ≡ gone)
       go true b = (λ h. absurd (false≢true h), λ h. absurd (living-gone h))
@@ -58,7 +58,7 @@ module _ (ks : List Key) (i g : ℕ) (s : length ks ≤ 16) where
 
   never-is : (neverIn ks i g ≡ true) ↔ (standingOf ks i g ≡ neverIssued)
   unfolding standingOf
-  never-is = rw (← strange-is ks i g s) (go (livesIn ks i g) (strange ks i g))
+  never-is = rw (← ungiven-is ks i g s) (go (livesIn ks i g) (ungiven ks i g))
     where
       go : (l b : Bool) → ((not l && b) ≡ true) ↔ (cond l living (cond (not b) gone neverIssued) ≡ neverIssued)
       go true b = (λ h. absurd (false≢true h), λ h. absurd (living-never h))
@@ -164,8 +164,8 @@ tells l t (shift u (subFloat x)) = none-named refl refl
 
 -- ---- the two numbers, in any station
 
--- an id is not both
-not-both : (st : Station) (n : Named) → IsNever st n → IsGone st n → ⊥
+-- an id is not both: RULES, order
+pub not-both : (st : Station) (n : Named) → IsNever st n → IsGone st n → ⊥
 not-both st noId x e = x
 not-both st (anyOf k i g) x e = gone-never (sym e ∙ x)
 not-both st (kindOf f i g) (inl x) e = gone-never (sym e ∙ x)
@@ -201,13 +201,14 @@ sized st c m = record {
 }
 
 -- every station that calls reach has its tables' sizes
-reached-tables : (cs : List Call) → Tables (afterAll freshStation cs)
-reached-tables cs = sized (afterAll freshStation cs) (reached-sixteen cs) (reached-slots cs)
-
 pub run-tables : (cs ds : List Call) → Tables (afterAll (afterAll freshStation cs) ds)
 run-tables cs ds = sized (afterAll (afterAll freshStation cs) ds) (run-sixteen (afterAll freshStation cs) (reached-sixteen cs) ds) (run-slots (afterAll freshStation cs) (reached-slots cs) ds)
 
 module _ (cs : List Call) where
+  reached-tables : Tables (afterAll freshStation cs)
+  unfolding afterAll
+  reached-tables = run-tables [] cs
+
   over : (k : Kind) (i g : ℕ) → (standing k (afterAll freshStation cs) i g ≡ gone) ↔ Over k cs i g
   over k i g = (
     λ e. record { issued = gone-issued k i g cs e; dead = standings.gone-given _ i g e .1 },
@@ -239,12 +240,12 @@ module _ (cs : List Call) where
   module _ (l : Lent) (at : l .station ≡ afterAll freshStation cs) (e : Entry) where
     pub seven-is-over : (numberGiven l e ≡ «GONE») ↔ OursOver cs (namedBy e)
     seven-is-over =
-        let r = seven l (subst Tables (sym at) (reached-tables cs)) e in
+        let r = seven l (subst Tables (sym at) reached-tables) e in
         let o = gone-over (namedBy e) in
         (λ q. o .0 (subst (λ (st : Station). IsGone st (namedBy e)) at (r .0 q)), λ h. r .1 (subst (λ (st : Station). IsGone st (namedBy e)) (sym at) (o .1 h)))
 
     pub fifteen-is-foreign : (numberGiven l e ≡ «NEVER_ISSUED») ↔ NotOurs cs (namedBy e)
     fifteen-is-foreign =
-        let r = fifteen l (subst Tables (sym at) (reached-tables cs)) e in
+        let r = fifteen l (subst Tables (sym at) reached-tables) e in
         let o = never-ours (namedBy e) in
         (λ q. o .0 (subst (λ (st : Station). IsNever st (namedBy e)) at (r .0 q)), λ h. r .1 (subst (λ (st : Station). IsNever st (namedBy e)) (sym at) (o .1 h)))

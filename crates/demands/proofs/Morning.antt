@@ -17,15 +17,13 @@ use Rattle.ids.specs.Lists.{readAt}
 use Rattle.ids.specs.declared.Key.{Key}
 use Rattle.ids.proofs.Names.{later-rises, later-numbered}
 use Rattle.ids.proofs.Standings.{given-gone, living-given}
-use Rattle.ids.proofs.Places.{read-set-other, lives-parts, find-missing, gives}
+use Rattle.ids.proofs.Places.{read-set-other, lives-parts, gives}
 use Rattle.judge.specs.Answer.{accepted}
 use Rattle.judge.specs.Numbers.{«GONE»}
 use Rattle.times.specs.declared.start_time.When.the-variants.{Never}
 use Rattle.times.specs.declared.time.ClockId.{ClockId}
-use Rattle.times.specs.declared.time.ClockTime.{ClockTime}
-use Rattle.values.specs.declared.value.Input.the-variants.{None}
 use Rattle.values.specs.declared.value.ModulatorId.{ModulatorId}
-use Rattle.info.specs.Infos.{dueOf, whenToStartOf, modulatorValueOf}
+use Rattle.info.specs.Infos.{dueOf, whenToStartOf}
 use Rattle.clock.specs.declared.ClockInfo.{ClockInfo}
 use Rattle.clock.specs.OneClock.{infoOf}
 use Rattle.clock_table.specs.ClockTables.{timeOf, clockTimeOf, clockTickingOf, clockSpeedOf}
@@ -161,37 +159,26 @@ module _ (st : Station) where
 -- adds into its slot too. Every call by the id, a read and a report too, is answered 7, whatever else is wrong with it:
 -- RULES, gone. A removed modulator's is so by a call for either kind.
 module _ (cs ds : List Call) where
-  over : (k : Kind) (c : Call) (i g : ℕ) → (lives k (afterAll freshStation cs) i g ≡ true) × Spent (keysOf k (after (afterAll freshStation cs) c)) i g → standing k (afterAll (afterAll freshStation cs) (c ∷ ds)) i g ≡ gone
+  removed-gone : (k : Kind) (c : Call) (i g : ℕ) → (lives k (afterAll freshStation cs) i g ≡ true) × Spent (keysOf k (after (afterAll freshStation cs) c)) i g → standing k (afterAll (afterAll freshStation cs) (c ∷ ds)) i g ≡ gone
   unfolding afterAll
-  over k c i g r =
+  removed-gone k c i g r =
       let was = living-given (keysOf k (afterAll freshStation cs)) i g (run-numbered k cs) (r .0) in
       gone-stays k i g (after (afterAll freshStation cs) c) (given-gone _ i g (record { least = was .least; most = r .1 .given }) (r .1 .dead)) ds
 
   module _ (l : Lent) (e : Entry) where
-    sevenfold : (c : Call) (n : Named) → l .station ≡ afterAll (afterAll freshStation cs) (c ∷ ds) → namedBy e ≡ n → IsGone (afterAll (afterAll freshStation cs) (c ∷ ds)) n → numberGiven l e ≡ «GONE»
-    sevenfold c n at is h = seven l (subst Tables (sym at) (run-tables cs (c ∷ ds))) e .1 (rw (at, is) h)
+    answered-seven : (c : Call) (n : Named) → l .station ≡ afterAll (afterAll freshStation cs) (c ∷ ds) → namedBy e ≡ n → IsGone (afterAll (afterAll freshStation cs) (c ∷ ds)) n → numberGiven l e ≡ «GONE»
+    answered-seven c n at is h = seven l (subst Tables (sym at) (run-tables cs (c ∷ ds))) e .1 (rw (at, is) h)
 
     pub yesterday-gone :
         (id : ClockId) → callNumber (afterAll freshStation cs) (clock (clocks.Remove id)) ≡ 0 → l .station ≡ afterAll (afterAll freshStation cs) (clock (clocks.Remove id) ∷ ds)
         → namedBy e ≡ anyOf ofClock (id .slot) (id .generation) → numberGiven l e ≡ «GONE»
-    yesterday-gone id z at n = sevenfold _ _ at n (over ofClock _ (id .slot) (id .generation) (clock-removed (afterAll freshStation cs) id z))
+    yesterday-gone id z at n = answered-seven _ _ at n (removed-gone ofClock _ (id .slot) (id .generation) (clock-removed (afterAll freshStation cs) id z))
 
     pub modulator-gone :
         (id : ModulatorId) → callNumber (afterAll freshStation cs) (modulator (modulators.Remove id)) ≡ 0 → l .station ≡ afterAll (afterAll freshStation cs) (modulator (modulators.Remove id) ∷ ds)
         → (namedBy e ≡ anyOf ofModulator (id .slot) (id .generation)) ⊎ ((f : Modulator → Bool) × (namedBy e ≡ kindOf f (id .slot) (id .generation))) → numberGiven l e ≡ «GONE»
-    modulator-gone id z at (inl n) = sevenfold _ _ at n (over ofModulator _ (id .slot) (id .generation) (modulator-removed (afterAll freshStation cs) id z))
-    modulator-gone id z at (inr (f, n)) = sevenfold _ _ at n (over ofModulator _ (id .slot) (id .generation) (modulator-removed (afterAll freshStation cs) id z))
-
--- Whoever waits for an id that does not live, gone or never issued, is told never, and a link to one is told nothing,
--- so its value stays: RULES, never and missing-modulator
-module _ (st : Station) where
-  pub waits-never : (t : ClockTime) → lives ofClock st (t .clock .slot) (t .clock .generation) ≡ false → whenToStartOf (infoIn st) t ≡ Never
-  unfolding whenToStartOf infoIn
-  waits-never t d = rw (find-missing (st .clocks .keys) (t .clock .slot) (t .clock .generation) d)
-
-  pub link-none : (id : ModulatorId) → lives ofModulator st (id .slot) (id .generation) ≡ false → modulatorValueOf (infoIn st) id ≡ None
-  unfolding modulatorValueOf infoIn
-  link-none id d = rw (find-missing (st .modulators .keys) (id .slot) (id .generation) d)
+    modulator-gone id z at (inl n) = answered-seven _ _ at n (removed-gone ofModulator _ (id .slot) (id .generation) (modulator-removed (afterAll freshStation cs) id z))
+    modulator-gone id z at (inr (f, n)) = answered-seven _ _ at n (removed-gone ofModulator _ (id .slot) (id .generation) (modulator-removed (afterAll freshStation cs) id z))
 
 -- nothing lives again in a slot whose generations are used up, under any generation: RULES, retired-slot
 record Retired (ks : List Key) (i : ℕ) : Type 0 where

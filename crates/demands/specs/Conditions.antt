@@ -54,14 +54,14 @@ use Rattle.demands.specs.Events.{clockIn}
 
 -- no id that the table has given out: of generation 0, of one above its slot's present generation, or of no slot of
 -- the 16
-abbrev pub strange : List Key → ℕ → ℕ → Bool
-strange ks i g = eqb g 0 || ltb (generationAt ks i) g || not (ltb i 16)
+abbrev pub ungiven : List Key → ℕ → ℕ → Bool
+ungiven ks i g = eqb g 0 || ltb (generationAt ks i) g || not (ltb i 16)
 
 abbrev pub goneIn : List Key → ℕ → ℕ → Bool
-goneIn ks i g = not (livesIn ks i g) && not (strange ks i g)
+goneIn ks i g = not (livesIn ks i g) && not (ungiven ks i g)
 
 abbrev pub neverIn : List Key → ℕ → ℕ → Bool
-neverIn ks i g = not (livesIn ks i g) && strange ks i g
+neverIn ks i g = not (livesIn ks i g) && ungiven ks i g
 
 abbrev pub isTweener : Modulator → Bool
 isTweener (OfTweener t) = true
@@ -74,12 +74,15 @@ isLfo m = not (isTweener m)
 abbrev pub otherKind : (Modulator → Bool) → Station → ModulatorId → Bool
 otherKind f st id = lives ofModulator st (id .slot) (id .generation) && not (readAt false (λ s. f (s .modulator)) (st .modulators .slots) (id .slot))
 
--- a call by the id of a clock, of a modulator, and of a modulator of the kind that f tells
+-- a call by the id of a clock, of a modulator, and of a modulator of the kind that k tells
+abbrev pub byId : List Key → ℕ → ℕ → Faults → Conditions
+byId ks i g f = ofId (goneIn ks i g) (neverIn ks i g) f
+
 abbrev pub byClock : Station → ClockId → Faults → Conditions
-byClock st id f = ofId (goneIn (keysOf ofClock st) (id .slot) (id .generation)) (neverIn (keysOf ofClock st) (id .slot) (id .generation)) f
+byClock st id f = byId (keysOf ofClock st) (id .slot) (id .generation) f
 
 abbrev pub byModulator : Station → ModulatorId → Faults → Conditions
-byModulator st id f = ofId (goneIn (keysOf ofModulator st) (id .slot) (id .generation)) (neverIn (keysOf ofModulator st) (id .slot) (id .generation)) f
+byModulator st id f = byId (keysOf ofModulator st) (id .slot) (id .generation) f
 
 abbrev pub byKind : (Modulator → Bool) → Station → ModulatorId → Faults → Conditions
 byKind k st id f = ofId (goneIn (keysOf ofModulator st) (id .slot) (id .generation)) (neverIn (keysOf ofModulator st) (id .slot) (id .generation) || otherKind k st id) f

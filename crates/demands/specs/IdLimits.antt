@@ -1,14 +1,14 @@
 -- The limits of GONE and NEVER_ISSUED, as one table with one claim: the ids just inside and just outside, at every call
--- by an id, with good and with bad arguments behind it. 02, dead or never ours. RULES, gone, never-issued and order.
--- Assumes nothing.
+-- by an id, with good and with bad arguments behind it, and in the lookup where a slot is retired. 02, dead or never
+-- ours. RULES, gone, never-issued and order. Assumes nothing.
 use Prim.Native.Nat.{ℕ}
 use mathlib.Core.List.{List, [], _∷_, _++_}
 use lib.Dec.{T}
-use lib.Ieee.{binary64, ofBits, lt, le, eq, div}
+use lib.Ieee.{ofBits, lt, le, eq, div}
 use lib.ListN.{replicate}
-use Rattle.doubles.specs.Doubles.{zeroF}
-use Rattle.ids.specs.Keys.{freeOf, livesIn, standingOf, findOf}
+use Rattle.ids.specs.Keys.{freeOf, livesIn, standingOf, findOf, takenAt, leftAt}
 use Rattle.ids.specs.Lists.{readAt}
+use Rattle.ids.specs.declared.Key.{Key}
 use Rattle.judge.specs.Answer.{numberTold}
 use Rattle.judge.specs.Judge.{numberOf, firstFault}
 use Rattle.judge.specs.Numbers.{«GONE», «NEVER_ISSUED», «BAD_FLOAT», «BAD_SPEED», «BUFFER»}
@@ -80,10 +80,23 @@ modulatorIds p q f = ids p q (λ i g. callNumber morning (modulator (f (record {
 abbrev tooLong : Tween
 tooLong = tweenOf Immediate 86_400_000_000_001 Linear
 
--- every call by an id, and the sets with bad arguments too: the ids that do not live are asked before them
+-- a slot that is retired, or was used very often: no run of calls is written down that comes so far
+abbrev lookups : (Key → ℕ → ℕ) → List Limit
+lookups f =
+    limit (f (leftAt 4294967295) 4294967295) «GONE»
+    ∷ limit (f (leftAt 4294967295) 1) «GONE»
+    ∷ limit (f (leftAt 4294967295) 0) «NEVER_ISSUED»
+    ∷ limit (f (takenAt 4294967295) 4294967295) 0
+    ∷ limit (f (takenAt 4294967295) 4294967294) «GONE»
+    ∷ limit (f (leftAt 4294967294) 4294967294) «GONE»
+    ∷ limit (f (leftAt 4294967294) 4294967295) «NEVER_ISSUED»
+    ∷ []
+
+-- every call by an id; and those that take arguments or a buffer with bad ones too, which come behind the id
 pub idTable : List Limit
 idTable =
-    clockIds (λ id. clocks.Remove id)
+    lookups (λ k g. numberTold (findOf (k ∷ []) 0 g))
+    ++ clockIds (λ id. clocks.Remove id)
     ++ clockIds (λ id. clocks.Start id)
     ++ clockIds (λ id. clocks.Stop id)
     ++ clockIds (λ id. clocks.Reset id)

@@ -28,14 +28,14 @@ split {P} j i s o = go (ℕ-discrete j i)
     go (no n) = o n
 
 -- an id that lives is that of its slot
-pub record Living (ks : List Key) (i g : ℕ) : Type 0 where
+pub record Occupied (ks : List Key) (i g : ℕ) : Type 0 where
   pub occupied : usedAt ks i ≡ true
   pub agrees : generationAt ks i ≡ g
 
-pub living : (ks : List Key) (i g : ℕ) → livesIn ks i g ≡ true → Living ks i g
+pub living : (ks : List Key) (i g : ℕ) → livesIn ks i g ≡ true → Occupied ks i g
 living ks i g l = go (usedAt ks i) refl (rw lives-parts at l)
   where
-    go : (u : Bool) → usedAt ks i ≡ u → (u && eqb (generationAt ks i) g) ≡ true → Living ks i g
+    go : (u : Bool) → usedAt ks i ≡ u → (u && eqb (generationAt ks i) g) ≡ true → Occupied ks i g
     go true u e = record { occupied = u; agrees = eqb-true _ _ e }
     go false u e = absurd (false≢true e)
 

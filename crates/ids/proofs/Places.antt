@@ -10,9 +10,8 @@ use lib.ListN.{length, getD, set, replicate}
 use lib.Dec.{ltb, eqb}
 use borrow.Author.Tests.{ltb-true, ne-eqb}
 use Rattle.judge.specs.Answer.{Answer, accepted, refused}
-use Rattle.judge.specs.Judge.{decided}
 use Rattle.judge.specs.Numbers.{«NO_ROOM»}
-use Rattle.ids.specs.Keys.{isFree, Place, place, roomAt, noRoom, freeOf, livesIn, wasGiven, gone, neverIssued, numberFor, absentOf, standingOf, findOf, foundAs, placeOf, placedAs, usedAt, generationAt}
+use Rattle.ids.specs.Keys.{isFree, Place, place, roomAt, noRoom, freeOf, livesIn, wasGiven, gone, neverIssued, standingNumber, missingOf, standingOf, findOf, foundAs, placeOf, placedAs, usedAt, generationAt}
 use Rattle.ids.specs.Lists.{readAt}
 use Rattle.ids.specs.declared.Key.{Key}
 use Rattle.ids.specs.declared.Found.{Found}
@@ -68,17 +67,17 @@ lives-inside (k ∷ ks) zero g e = omega arith
 lives-inside (k ∷ ks) (suc i) g e = let h = lives-inside ks i g e in omega arith
 
 -- the number of an id that does not live is never 0
-pub absent-number : (last g : ℕ) → numberFor (absentOf last g) ≡ 0 → ⊥
-absent-number last g = go (wasGiven last g)
+missing-refused : (last g : ℕ) → standingNumber (missingOf last g) ≡ 0 → ⊥
+missing-refused last g = go (wasGiven last g)
   where
-    go : (b : Bool) → numberFor (cond b gone neverIssued) ≡ 0 → ⊥
+    go : (b : Bool) → standingNumber (cond b gone neverIssued) ≡ 0 → ⊥
     go true z = omega arith
     go false z = omega arith
 
 module _ (ks : List Key) (i g : ℕ) where
   -- the number by which an id is refused that does not live
   abbrev pub missingNumber : ℕ
-  missingNumber = numberFor (absentOf (generationAt ks i) g)
+  missingNumber = standingNumber (missingOf (generationAt ks i) g)
 
   pub find-living : livesIn ks i g ≡ true → findOf ks i g ≡ accepted i
   unfolding findOf standingOf
@@ -86,7 +85,7 @@ module _ (ks : List Key) (i g : ℕ) where
 
   pub find-missing : livesIn ks i g ≡ false → findOf ks i g ≡ refused missingNumber
   unfolding findOf standingOf
-  find-missing l = rw (l, ne-eqb missingNumber 0 (absent-number (generationAt ks i) g))
+  find-missing l = rw (l, ne-eqb missingNumber 0 (missing-refused (generationAt ks i) g))
 
   -- a lookup refuses, since the id does not live, or gives the slot, in which the id lives
   pub found-case :
@@ -96,7 +95,7 @@ module _ (ks : List Key) (i g : ℕ) where
     where
       go : (b : Bool) → livesIn ks i g ≡ b → P (findOf ks i g)
       go true l = subst P (sym (find-living l)) (h l)
-      go false l = subst P (sym (find-missing l)) (m missingNumber (absent-number (generationAt ks i) g) l)
+      go false l = subst P (sym (find-missing l)) (m missingNumber (missing-refused (generationAt ks i) g) l)
 
 -- what is found is the slot asked for, and the id lives in it
 pub record Finds (ks : List Key) (slot g i : ℕ) : Type 0 where

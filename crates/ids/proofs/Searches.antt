@@ -1,34 +1,35 @@
--- What `find` and `free` read in a slot says what `findOf` and `freeOf` answer. Assumes nothing.
+-- What `find`, `missing` and `free` read in a slot says what `findOf`, `missingOf` and `freeOf` answer. Assumes
+-- nothing.
 use Prim.Native.Nat.{ℕ, zero, suc, _+_, _<_, _≤_}
 use native.Mathlib.Numerals.{add-one}
+use native.Mathlib.Omega.{arith}
 use mathlib.Core.Path.{_≡_, refl}
 use mathlib.Core.Bool.{true, false, not, _&&_}
 use mathlib.Core.List.{List}
 use lib.ListN.{length, getD, drop}
 use lib.Seq.{drop-cons, drop-length}
 use lib.Dec.{eqb}
-use native.Mathlib.Omega.{arith}
 use borrow.Author.Tests.{lt-ltb, le-leb, lt-leb, eq-eqb, ne-eqb}
 use Rattle.judge.specs.Answer.{accepted, refused}
 use Rattle.judge.specs.Numbers.{«GONE», «NEVER_ISSUED»}
-use Rattle.ids.specs.Keys.{isFree, roomAt, noRoom, freeOf, livesIn, numberFor, absentOf, findOf, foundAs}
+use Rattle.ids.specs.Keys.{isFree, roomAt, noRoom, freeOf, livesIn, standingNumber, missingOf, findOf, foundAs}
 use Rattle.ids.specs.declared.Key.{Key}
 use Rattle.ids.proofs.Places.{read-at, read-past, lives-parts, find-living, find-missing}
 
 -- ---- `missing`, at each way that it goes
 
 module _ (last g : ℕ) where
-  pub given-zero : g ≡ 0 → «NEVER_ISSUED» ≡ numberFor (absentOf last g)
+  pub given-zero : g ≡ 0 → «NEVER_ISSUED» ≡ standingNumber (missingOf last g)
   given-zero e = rw e
 
-  pub given-above : last < g → «NEVER_ISSUED» ≡ numberFor (absentOf last g)
+  pub given-above : last < g → «NEVER_ISSUED» ≡ standingNumber (missingOf last g)
   given-above h = rw (le-leb 1 g (omega arith), lt-leb g last h)
 
-  pub given-once : (g ≡ 0 → ⊥) → g ≤ last → «GONE» ≡ numberFor (absentOf last g)
+  pub given-once : (g ≡ 0 → ⊥) → g ≤ last → «GONE» ≡ standingNumber (missingOf last g)
   given-once z h = rw (le-leb 1 g (omega arith), le-leb g last h)
 
 -- a slot that has given nothing has given no generation
-none-given : (g : ℕ) → «NEVER_ISSUED» ≡ numberFor (absentOf 0 g)
+none-given : (g : ℕ) → «NEVER_ISSUED» ≡ standingNumber (missingOf 0 g)
 none-given zero = given-zero 0 0 refl
 none-given (suc g) = given-above 0 (suc g) (omega arith)
 
@@ -42,13 +43,13 @@ module _ (ks : List Key) (i g : ℕ) (d : Key) (h : i < length ks) where
   find-live u e = rw (find-living ks i g (rw (lives-at, u, eq-eqb _ _ e)))
 
   -- n is the number that the code computed by the slot's generation
-  dead-by : {n : ℕ} → livesIn ks i g ≡ false → n ≡ numberFor (absentOf (getD ks i d .generation) g) → foundAs (refused n) ≡ foundAs (findOf ks i g)
+  dead-by : {n : ℕ} → livesIn ks i g ≡ false → n ≡ standingNumber (missingOf (getD ks i d .generation) g) → foundAs (refused n) ≡ foundAs (findOf ks i g)
   dead-by l e = rw (find-missing ks i g l, read-at 0 (λ (k : Key). k .generation) ks i d h, e)
 
-  pub find-old : {n : ℕ} → getD ks i d .used ≡ true → (getD ks i d .generation ≡ g → ⊥) → n ≡ numberFor (absentOf (getD ks i d .generation) g) → foundAs (refused n) ≡ foundAs (findOf ks i g)
+  pub find-old : {n : ℕ} → getD ks i d .used ≡ true → (getD ks i d .generation ≡ g → ⊥) → n ≡ standingNumber (missingOf (getD ks i d .generation) g) → foundAs (refused n) ≡ foundAs (findOf ks i g)
   find-old u o e = dead-by (rw (lives-at, u, ne-eqb _ _ o)) e
 
-  pub find-empty : {n : ℕ} → getD ks i d .used ≡ false → n ≡ numberFor (absentOf (getD ks i d .generation) g) → foundAs (refused n) ≡ foundAs (findOf ks i g)
+  pub find-empty : {n : ℕ} → getD ks i d .used ≡ false → n ≡ standingNumber (missingOf (getD ks i d .generation) g) → foundAs (refused n) ≡ foundAs (findOf ks i g)
   find-empty u e = dead-by (rw (lives-at, u)) e
 
 pub find-past : (ks : List Key) (i g : ℕ) → length ks ≤ i → foundAs (refused «NEVER_ISSUED») ≡ foundAs (findOf ks i g)

@@ -8,13 +8,12 @@ use mathlib.Core.Path.{_≡_, refl, sym}
 use mathlib.Core.Bool.{Bool, true, false, _&&_, cond, false≢true}
 use mathlib.Core.Logic.{_⊎_, inl, inr}
 use mathlib.Core.List.{List}
-use lib.ListN.{length, set, replicate}
+use lib.ListN.{set, replicate}
 use lib.Dec.{leb}
 use borrow.Author.Tests.{leb-true, le-leb}
-use Rattle.ids.specs.Keys.{roomAt, freeOf, livesIn, generationAt, wasGiven, living, gone, neverIssued, standingOf, takenAt, leftAt, Given, Numbered, Later}
+use Rattle.ids.specs.Keys.{roomAt, freeOf, livesIn, generationAt, wasGiven, living, gone, neverIssued, standingOf, takenAt, leftAt, GivenOut, Numbered, Later}
 use Rattle.ids.specs.declared.Key.{Key}
 use Rattle.ids.proofs.Names as names
-use Rattle.ids.proofs.Places.{read-past}
 
 -- ---- the test, and what it says
 
@@ -31,12 +30,12 @@ module _ (ks : List Key) (i g : ℕ) where
   lives-living l = rw l
 
   -- an id that was given out and does not live is gone
-  pub given-gone : Given ks i g → livesIn ks i g ≡ false → standingOf ks i g ≡ gone
+  pub given-gone : GivenOut ks i g → livesIn ks i g ≡ false → standingOf ks i g ≡ gone
   unfolding standingOf
   given-gone p l = rw (l, le-leb 1 g (p .least), le-leb g (generationAt ks i) (p .most))
 
   -- so an id that was given out lives or is gone
-  pub given-known : Given ks i g → (standingOf ks i g ≡ living) ⊎ (standingOf ks i g ≡ gone)
+  pub given-known : GivenOut ks i g → (standingOf ks i g ≡ living) ⊎ (standingOf ks i g ≡ gone)
   given-known p = go (livesIn ks i g) refl
     where
       go : (b : Bool) → livesIn ks i g ≡ b → (standingOf ks i g ≡ living) ⊎ (standingOf ks i g ≡ gone)
@@ -44,19 +43,19 @@ module _ (ks : List Key) (i g : ℕ) where
       go false l = inr (given-gone p l)
 
   -- and one that is gone was given out, and does not live
-  pub gone-given : standingOf ks i g ≡ gone → Given ks i g × (livesIn ks i g ≡ false)
+  pub gone-given : standingOf ks i g ≡ gone → GivenOut ks i g × (livesIn ks i g ≡ false)
   unfolding standingOf
   gone-given e = go (livesIn ks i g) (wasGiven (generationAt ks i) g) refl refl e
     where
       go :
           (b c : Bool) → livesIn ks i g ≡ b → wasGiven (generationAt ks i) g ≡ c → cond b living (cond c gone neverIssued) ≡ gone
-          → Given ks i g × (livesIn ks i g ≡ false)
+          → GivenOut ks i g × (livesIn ks i g ≡ false)
       go true c l q e = let z : _≡_ {A = ℕ} 0 1 = cc in absurd (omega arith)
       go false true l q e = let h = given-by (generationAt ks i) g q in (record { least = h .0; most = h .1 }, l)
       go false false l q e = let z : _≡_ {A = ℕ} 0 1 = cc in absurd (omega arith)
 
   -- one that was not given out and does not live was never issued
-  pub ungiven-never : (Given ks i g → ⊥) → livesIn ks i g ≡ false → standingOf ks i g ≡ neverIssued
+  pub ungiven-never : (GivenOut ks i g → ⊥) → livesIn ks i g ≡ false → standingOf ks i g ≡ neverIssued
   unfolding standingOf
   ungiven-never n l = go (wasGiven (generationAt ks i) g) refl
     where
@@ -65,27 +64,23 @@ module _ (ks : List Key) (i g : ℕ) where
       go false q = rw l
 
   -- an id of a table of calls lives only where it was given out
-  pub living-given : Numbered ks → livesIn ks i g ≡ true → Given ks i g
+  pub living-given : Numbered ks → livesIn ks i g ≡ true → GivenOut ks i g
   living-given n l =
       let v = names.living ks i g l in
       record { least = omega (arith, n .first i (v .occupied), v .agrees); most = omega (arith, v .agrees) }
-
-  -- a slot past the table's end gives nothing out
-  pub past-ungiven : length ks ≤ i → Given ks i g → ⊥
-  past-ungiven h p = omega (arith, p .least, p .most, read-past 0 (λ (k : Key). k .generation) ks i h)
 
 -- ---- an add, and a removal
 
 module _ (ks : List Key) (i g : ℕ) (e : freeOf 0 ks ≡ roomAt i g) where
   -- an add gives its id out
-  pub add-gives : Given (set ks i (takenAt g)) i g
+  pub add-gives : GivenOut (set ks i (takenAt g)) i g
   add-gives = record { least = omega (arith, names.add-raises ks i g e); most = omega (arith, names.own-generation ks i g e) }
 
   -- and no other
-  pub add-gave : (j h : ℕ) → Given (set ks i (takenAt g)) j h → Given ks j h ⊎ ((j ≡ i) × (h ≡ g))
+  pub add-gave : (j h : ℕ) → GivenOut (set ks i (takenAt g)) j h → GivenOut ks j h ⊎ ((j ≡ i) × (h ≡ g))
   add-gave j h p = go (ℕ-discrete j i) (ℕ-discrete h g)
     where
-      go : Dec (j ≡ i) → Dec (h ≡ g) → Given ks j h ⊎ ((j ≡ i) × (h ≡ g))
+      go : Dec (j ≡ i) → Dec (h ≡ g) → GivenOut ks j h ⊎ ((j ≡ i) × (h ≡ g))
       go (yes q) (yes r) = inr (q, r)
       go (yes q) (no n) =
           let most : h ≤ generationAt (set ks i (takenAt g)) i = rw q at (p .most) in
@@ -93,14 +88,14 @@ module _ (ks : List Key) (i g : ℕ) (e : freeOf 0 ks ≡ roomAt i g) where
       go (no n) r = inl (record { least = p .least; most = rw (sym (names.generation-there ks i (takenAt g) j n)) (p .most) })
 
 -- a removal gives nothing out
-pub remove-gave : (ks : List Key) (i g : ℕ) → livesIn ks i g ≡ true → (j h : ℕ) → Given (set ks i (leftAt g)) j h → Given ks j h
+pub remove-gave : (ks : List Key) (i g : ℕ) → livesIn ks i g ≡ true → (j h : ℕ) → GivenOut (set ks i (leftAt g)) j h → GivenOut ks j h
 remove-gave ks i g l j h p = record { least = p .least; most = omega (arith, p .most, names.remove-generations ks i g l j) }
 
 -- ---- whatever comes after
 
 module _ {ks ls : List Key} (m : Later ks ls) (j h : ℕ) where
   -- what was given out stays given out
-  pub later-given : Given ks j h → Given ls j h
+  pub later-given : GivenOut ks j h → GivenOut ls j h
   later-given p = record { least = p .least; most = omega (arith, p .most, names.later-rises m j) }
 
   -- and what is gone stays gone
@@ -110,5 +105,5 @@ module _ {ks ls : List Key} (m : Later ks ls) (j h : ℕ) where
       given-gone ls j h (later-given (p .0)) (names.later-spent m j h (record { given = p .0 .most; dead = p .1 }) .dead)
 
 -- a new table has given nothing out
-pub start-ungiven : (n i g : ℕ) → Given (replicate n (leftAt 0)) i g → ⊥
+pub start-ungiven : (n i g : ℕ) → GivenOut (replicate n (leftAt 0)) i g → ⊥
 start-ungiven n i g p = omega (arith, p .least, p .most, names.start-zero n i)

@@ -1,5 +1,5 @@
--- Document 01, "Names that cannot be shared": slots, generations, and which ids live. A table's keys are a list, a key
--- for each slot. Assumes nothing.
+-- Document 01, "Names that cannot be shared": slots, generations, and which ids live; 02, dead or never ours: what any
+-- other id is to a table. A table's keys are a list, a key for each slot. Assumes nothing.
 use Prim.Native.Nat.{ℕ, zero, suc, _+_, _≤_}
 use mathlib.Core.Bool.{Bool, true, false, not, _&&_, cond}
 use mathlib.Core.Path.{_≡_}
@@ -63,21 +63,21 @@ pub data Standing : Type 0 where
   neverIssued : Standing
 
 -- of an id that does not live
-abbrev pub absentOf : ℕ → ℕ → Standing
-absentOf last g = cond (wasGiven last g) gone neverIssued
+abbrev pub missingOf : ℕ → ℕ → Standing
+missingOf last g = cond (wasGiven last g) gone neverIssued
 
 unfoldable pub standingOf : List Key → ℕ → ℕ → Standing
-standingOf ks i g = cond (livesIn ks i g) living (absentOf (generationAt ks i) g)
+standingOf ks i g = cond (livesIn ks i g) living (missingOf (generationAt ks i) g)
 
 -- the number that a call on the id is given, 0 where it lives: RULES, gone, never-issued and ok
-abbrev pub numberFor : Standing → ℕ
-numberFor living = 0
-numberFor gone = «GONE»
-numberFor neverIssued = «NEVER_ISSUED»
+abbrev pub standingNumber : Standing → ℕ
+standingNumber living = 0
+standingNumber gone = «GONE»
+standingNumber neverIssued = «NEVER_ISSUED»
 
 -- where an id lives, or the number that a call on it is given: RULES, id
 unfoldable pub findOf : List Key → ℕ → ℕ → Answer ℕ
-findOf ks i g = decided (numberFor (standingOf ks i g)) (accepted i) refused
+findOf ks i g = decided (standingNumber (standingOf ks i g)) (accepted i) refused
 
 -- a lookup's answer with a slot in each case: the first one where the id lives in none
 abbrev pub foundAs : Answer ℕ → Found
@@ -114,7 +114,7 @@ abbrev pub Closed : List Key → ℕ → Type 0
 Closed ks i = (usedAt ks i ≡ true) ⊎ (4294967295 ≤ generationAt ks i)
 
 -- an id that its slot has given out, as its generation tells: RULES, generation
-pub record Given (ks : List Key) (i g : ℕ) : Type 0 where
+pub record GivenOut (ks : List Key) (i g : ℕ) : Type 0 where
   pub least : 1 ≤ g
   pub most : g ≤ generationAt ks i
 

@@ -3,7 +3,7 @@
 
 ghost use mathlib.Core.Path.{_≡_};
 ghost use Rattle.judge.specs.Answer.{refused, numberTold};
-ghost use Rattle.ids.specs.Keys.{toldRoom, freeOf, absentOf, numberFor, foundAs, findOf, placedAs, placeOf, leftOf};
+ghost use Rattle.ids.specs.Keys.{toldRoom, freeOf, missingOf, standingNumber, foundAs, findOf, placedAs, placeOf, leftOf};
 use judge::GONE;
 use judge::NEVER_ISSUED;
 use judge::NO_ROOM;
@@ -56,7 +56,7 @@ pub fn free(keys: [Key; 16]) -> Room
 
 // The number of an id that does not live: GONE where its slot, which stands at `last`, has given its generation.
 fn missing(last: u32, generation: u32) -> u32
-    ensures { λ n. ⌜ n ≡ numberFor (absentOf last generation) ⌝ }
+    ensures { λ n. ⌜ n ≡ standingNumber (missingOf last generation) ⌝ }
 {
     if generation == 0 {
         return NEVER_ISSUED;

@@ -1,5 +1,5 @@
--- The numbers of the refusal table, each by its name in document 01, "Refusal numbers": RULES, refusal-numbers. They
--- are written here and nowhere else. Assumes nothing.
+-- The numbers of the refusal table, each by its name in document 01, "Refusal numbers", or in 02, where that came with
+-- it or changed it: RULES, refusal-numbers. They are written here and nowhere else. Assumes nothing.
 use Prim.Native.Nat.{ℕ}
 
 abbrev pub «BAD_DT» : ℕ
@@ -46,7 +46,7 @@ abbrev pub «TRACE» : ℕ
 abbrev pub «WRONG_ID» : ℕ
 «WRONG_ID» = 14
 
--- ---- of an id that does not live, beside GONE: 02, dead or never ours
+-- ---- of an id again, beside GONE: 02, dead or never ours
 
 abbrev pub «NEVER_ISSUED» : ℕ
 «NEVER_ISSUED» = 15

@@ -2,36 +2,27 @@
 -- and the reverse. RULES, apart. Assumes nothing.
 use Prim.Native.Nat.{ℕ}
 use mathlib.Core.Path.{_≡_, refl, sym, _∙_}
-use mathlib.Core.Bool.{Bool, true, false, _&&_, false≢true}
+use mathlib.Core.Bool.{true, false≢true}
 use mathlib.Core.List.{List}
 use lib.Seq.{getD-set-other}
-use lib.Dec.{eqb}
-use borrow.Author.Tests.{eqb-true}
-use Rattle.ids.specs.Keys.{roomAt, freeOf, livesIn, usedAt, generationAt}
+use Rattle.ids.specs.Keys.{roomAt, freeOf, livesIn}
 use Rattle.ids.specs.declared.Key.{Key}
 use Rattle.ids.proofs.Names as names
-use Rattle.ids.proofs.Places.{lives-parts, gives}
+use Rattle.ids.proofs.Places.{gives}
 use Rattle.station.specs.declared.Station.{Station}
 use Rattle.laws.specs.Calls.{Call, after, Kind, keysOf, lives, Told, Target, targetOf, Touches, Stays, Untouched}
 use Rattle.laws.proofs.lemmas.Deeds.{Deed, leaves, changes, removes, adds, turns, deed}
 
 -- ---- slots
 
-lives-there : (ks : List Key) (i g : ℕ) → livesIn ks i g ≡ true → (usedAt ks i ≡ true) × (generationAt ks i ≡ g)
-lives-there ks i g l = go (usedAt ks i) refl (rw lives-parts at l)
-  where
-    go : (u : Bool) → usedAt ks i ≡ u → (u && eqb (generationAt ks i) g) ≡ true → (usedAt ks i ≡ true) × (generationAt ks i ≡ g)
-    go true u e = (u, eqb-true _ _ e)
-    go false u e = absurd (false≢true e)
-
 module _ (ks : List Key) (j h : ℕ) (l : livesIn ks j h ≡ true) where
   -- another id that lives is in another slot
   slots-apart : (i g : ℕ) → livesIn ks i g ≡ true → (j ≡ i → h ≡ g → ⊥) → j ≡ i → ⊥
-  slots-apart i g m n p = n p (sym (lives-there ks j h l .1) ∙ (rw (sym p) at (lives-there ks i g m .1)))
+  slots-apart i g m n p = n p (sym (names.living ks j h l .agrees) ∙ (rw (sym p) at (names.living ks i g m .agrees)))
 
   -- an add takes no slot in which an id lives
   slot-taken : (i g : ℕ) → freeOf 0 ks ≡ roomAt i g → j ≡ i → ⊥
-  slot-taken i g e p = false≢true (sym (gives ks i g e .empty) ∙ (rw p at (lives-there ks j h l .0)))
+  slot-taken i g e p = false≢true (sym (gives ks i g e .empty) ∙ (rw p at (names.living ks j h l .occupied)))
 
 -- ---- entries
 

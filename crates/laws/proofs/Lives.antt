@@ -3,13 +3,11 @@
 -- them. RULES, apart. Assumes nothing.
 use Prim.Native.Nat.{ℕ}
 use native.Mathlib.Omega.{arith}
-use mathlib.Core.Path.{_≡_, refl}
-use mathlib.Core.Bool.{Bool, true, false, cond}
+use mathlib.Core.Path.{_≡_, refl, sym, _∙_}
+use mathlib.Core.Bool.{true, false}
 use mathlib.Core.List.{List, [], _∷_}
 use lib.ListN.{set}
-use lib.Dec.{eqb}
 use lib.Ieee.{Float}
-use borrow.Author.Tests.{eqb-true}
 use Rattle.ids.specs.Keys.{roomAt, freeOf, takenAt, Spent, Numbered, Later, same, added, removed}
 use Rattle.ids.specs.Tables.{freed, onFound, refusedCall}
 use Rattle.ids.specs.declared.Key.{Key}
@@ -23,7 +21,6 @@ use Rattle.clock_table.specs.ClockTables as clocks
 use Rattle.clock_table.specs.declared.ClockDone.{ClockDone}
 use Rattle.modulator_table.specs.ModulatorTables as modulators
 use Rattle.modulator_table.specs.declared.ModulatorDone.{ModulatorDone}
-use Rattle.commands.specs.Answers.{byNumber}
 use Rattle.commands.specs.ClockCommands as clockRuns
 use Rattle.commands.specs.ClockCommands.{runClockOf}
 use Rattle.commands.specs.ModulatorCommands as modulatorRuns
@@ -32,7 +29,8 @@ use Rattle.commands.specs.declared.clock_command.ClockCommand.the-variants as c
 use Rattle.commands.specs.declared.modulator_command.ModulatorCommand.the-variants as modulatorCommand
 use Rattle.station.specs.Stations.{freshStation}
 use Rattle.station.specs.declared.Station.{Station}
-use Rattle.laws.specs.Calls.{Call, clock, modulator, frame, after, afterAll, Kind, ofClock, ofModulator, keysOf, lives, Told, refusal, named, done, told, callNumber, Target, all}
+use Rattle.laws.specs.Calls.{Call, clock, modulator, frame, after, afterAll, Kind, ofClock, ofModulator, keysOf, lives, Told, named, told, callNumber, Target, all}
+use Rattle.laws.proofs.Refusals.{told-number}
 use Rattle.laws.proofs.lemmas.Deeds.{Deed, leaves, changes, removes, adds, turns, deed, read-case}
 
 -- ---- one call
@@ -89,14 +87,6 @@ module _ (k : Kind) (st : Station) where
     pub named-lives : lives k (after st c) i g ≡ true
     named-lives = rw (took .keys) (names.add-lives (keysOf k st) i g (took .room))
 
--- the number by which a call is done or refused is the one that is told
-by-number : (n : ℕ) → numberTold (byNumber n) ≡ 0 → n ≡ 0
-by-number n = go (eqb n 0) (eqb-true n 0)
-  where
-    go : (b : Bool) → (b ≡ true → n ≡ 0) → numberTold (cond b done (refusal n)) ≡ 0 → n ≡ 0
-    go true h z = h refl
-    go false h z = z
-
 -- an accepted removal ends its id, which lived until then
 module _ (st : Station) where
   pub clock-removed :
@@ -114,7 +104,7 @@ module _ (st : Station) where
       Ended r = numberTold (clockRuns.doneAs r .answer) ≡ 0 → (lives ofClock st (id .slot) (id .generation) ≡ true) × Spent (r .table .keys) (id .slot) (id .generation)
 
       refused : (n : ℕ) → (n ≡ 0 → ⊥) → Ended (refusedCall clocks.clockTable (st .clocks) n)
-      refused n y z = absurd (y (by-number n z))
+      refused n y z = absurd (y (sym (told-number n) ∙ z))
 
   pub modulator-removed :
       (id : ModulatorId) → callNumber st (modulator (modulatorCommand.Remove id)) ≡ 0
@@ -131,7 +121,7 @@ module _ (st : Station) where
       Ended r = numberTold (modulatorRuns.doneAs r .answer) ≡ 0 → (lives ofModulator st (id .slot) (id .generation) ≡ true) × Spent (r .table .keys) (id .slot) (id .generation)
 
       refused : (n : ℕ) → (n ≡ 0 → ⊥) → Ended (refusedCall modulators.modulatorTable (st .modulators) n)
-      refused n y z = absurd (y (by-number n z))
+      refused n y z = absurd (y (sym (told-number n) ∙ z))
 
 -- ---- a run
 

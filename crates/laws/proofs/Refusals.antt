@@ -2,11 +2,11 @@
 -- parameter; and its number is not 0. 01, "Refusal numbers"; RULES, refusal and ok. Assumes nothing.
 use Prim.Native.Nat.{ℕ}
 use native.Mathlib.Omega.{arith}
-use mathlib.Core.Path.{_≡_, refl, subst}
+use mathlib.Core.Path.{_≡_, refl, sym, subst}
 use mathlib.Core.Bool.{Bool, true, false, cond}
 use mathlib.Core.List.{List}
 use lib.Dec.{eqb}
-use borrow.Author.Tests.{eqb-false}
+use borrow.Author.Tests.{eqb-true, eqb-false}
 use lib.Ieee.{Float}
 use Rattle.ids.specs.Keys.{Place, place, freeOf}
 use Rattle.ids.specs.Tables.{Table, readFound, whereIs, refusedAdd, placedIn, addedTo}
@@ -40,6 +40,7 @@ use Rattle.modulator_table.specs.ModulatorTables as modulators
 use Rattle.modulator_table.specs.declared.Modulator.the-variants.{OfTweener, OfLfo}
 use Rattle.modulator_table.specs.declared.Modulators.{Modulators}
 use Rattle.modulator_table.specs.declared.Slot.{Slot}
+use Rattle.commands.specs.Answers.{byNumber}
 use Rattle.commands.specs.ClockCommands.{runClockOf}
 use Rattle.commands.specs.ModulatorCommands.{runModulatorOf}
 use Rattle.commands.specs.declared.clock_command.ClockCommand.{ClockCommand}
@@ -48,7 +49,7 @@ use Rattle.commands.specs.declared.modulator_command.ModulatorCommand.{Modulato
 use Rattle.commands.specs.declared.modulator_command.ModulatorCommand.the-variants as modulatorCommand
 use Rattle.station.specs.Frames.{frameOf}
 use Rattle.station.specs.declared.Station.{Station}
-use Rattle.laws.specs.Calls.{Call, clock, modulator, frame, after, Kind, ofClock, ofModulator, keysOf, entriesOf, Told, refusal, told, callNumber, Target}
+use Rattle.laws.specs.Calls.{Call, clock, modulator, frame, after, Kind, ofClock, ofModulator, keysOf, entriesOf, Told, refusal, done, told, callNumber, Target}
 use Rattle.laws.proofs.lemmas.Deeds.{read-case, Deed, leaves, changes, removes, adds, turns, deed}
 
 -- ---- calls on a station
@@ -94,6 +95,14 @@ numbered-decided n x = go (eqb n 0) (eqb-false n 0)
     go : (b : Bool) → (b ≡ false → n ≡ 0 → ⊥) → Numbered (cond b (accepted x) (refused n))
     go true h = tt
     go false h = h refl
+
+-- a call that is done or refused by a number tells that number
+pub told-number : (n : ℕ) → numberTold (byNumber n) ≡ n
+told-number n = go (eqb n 0) (eqb-true n 0)
+  where
+    go : (b : Bool) → (b ≡ true → n ≡ 0) → numberTold (cond b done (refusal n)) ≡ n
+    go true h = sym (h refl)
+    go false h = refl
 
 numbered-on : {A B : Type 0} (f : A → B) (a : Answer A) → Numbered a → Numbered (onAccepted f a)
 numbered-on f (accepted x) h = tt

@@ -1,5 +1,5 @@
--- A station's calls, as the crate `run` has them, and which entry a call acts on. 01, "Refusal numbers", "Names that
--- cannot be shared", "Frame". Assumes nothing.
+-- A station's calls, as the crate `run` has them, which ids they give out, and which entry a call acts on. 01, "Refusal
+-- numbers", "Names that cannot be shared", "Frame". Assumes nothing.
 use Prim.Native.Nat.{ℕ}
 use mathlib.Core.Path.{_≡_}
 use mathlib.Core.Bool.{Bool, true}

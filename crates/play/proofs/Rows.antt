@@ -103,7 +103,7 @@ pub leading-zero : verdictOn (ended «op=add» ++ ended («slot=» ++ 0x30 ∷ 0
 unfolding replayOf endOf tapeOf linesFrom judgeOf opOf sameBytes begins decimalBehind decimalOf numberFrom
 leading-zero = refl
 
--- ---- refusals in the second record; the first puts 0:1 on, and has 41 bytes
+-- ---- refusals behind a first record that puts 0:1 on, and has 41 bytes
 
 abbrev zeros : List ℕ
 zeros = replicate 16 0x30

@@ -1,5 +1,5 @@
-//! Ids that are dead, used again or foreign: clocks and modulators come and go in few slots, and most calls by an id
-//! name something else than what lives.
+//! Ids that are dead, used again or foreign: clocks and modulators come and go in few slots, and about half of the
+//! calls by an id name something else than what lives.
 
 mod rows;
 
@@ -12,9 +12,10 @@ use super::{
     table::{FRESH, Kind, SLOTS, Table, take},
 };
 
-/// Every call that acts on an id, by the kind that it acts on; both kinds of modulator have `mod.*`. Starts come often:
-/// where a slot's clock ticks, a wait for an older one of the slot must not begin.
-const CLOCK_FORMS: [&str; 12] = [
+/// Every call that acts on an id, by the kind that it acts on; both kinds of modulator have `mod.*`. MOD is a modulator
+/// that a value follows, and may name any id. Starts come often: where a slot's clock ticks, a wait for an older one of
+/// the slot must not begin.
+const CLOCK_FORMS: [&str; 13] = [
     "clock.drop ID",
     "clock.start ID",
     "clock.start ID",
@@ -27,20 +28,38 @@ const CLOCK_FORMS: [&str; 12] = [
     "clock.report ID LENGTH",
     "clock.preset ID TICKS FRACTION",
     "clock.speed ID fix SPEED TWEEN",
+    "clock.speed ID mod MOD SMAP TWEEN",
 ];
 const TWEENER_FORMS: [&str; 3] = ["mod.drop ID", "mod.value ID", "tweener.set ID FLOAT TWEEN"];
-const LFO_FORMS: [&str; 7] = [
+const LFO_FORMS: [&str; 10] = [
     "mod.drop ID",
     "mod.value ID",
     "lfo.freq ID fix FLOAT TWEEN",
     "lfo.amp ID fix FLOAT TWEEN",
     "lfo.off ID fix FLOAT TWEEN",
+    "lfo.freq ID mod MOD FMAP TWEEN",
+    "lfo.amp ID mod MOD FMAP TWEEN",
+    "lfo.off ID mod MOD FMAP TWEEN",
     "lfo.wave ID WAVE",
     "lfo.phase ID FLOAT",
 ];
 
+/// What is added. The input ends of what follows a modulator are never the same: an add that is refused would leave the
+/// picture wrong.
+const CLOCK_ADDS: [&str; 3] = [
+    "clock.add fix tps PACE",
+    "clock.add fix tps PACE",
+    "clock.add mod MOD bff0000000000000 3ff0000000000000 tps PACE tps PACE EASE",
+];
+const TWEENER_ADDS: [&str; 1] = ["tweener.add FLOAT"];
+const LFO_ADDS: [&str; 3] = [
+    "lfo.add WAVE fix FLOAT fix FLOAT fix FLOAT FLOAT",
+    "lfo.add WAVE fix FLOAT fix FLOAT fix FLOAT FLOAT",
+    "lfo.add WAVE mod MOD bff0000000000000 3ff0000000000000 FLOAT FLOAT EASE fix FLOAT fix FLOAT FLOAT",
+];
+
 /// What may name any id and is not refused for it, by what it names, and what shows that it waits or follows.
-const LINK_FORMS: [(Kind, &str); 10] = [
+const LINK_FORMS: [(Kind, &str); 14] = [
     (Kind::Clock, "when ID TICKS FRACTION"),
     (Kind::Clock, "start.up clk ID TICKS FRACTION DT"),
     (
@@ -54,9 +73,13 @@ const LINK_FORMS: [(Kind, &str); 10] = [
     (Kind::Lfo, "val.raw mod ID FMAP"),
     (Kind::Tweener, "sval.raw mod ID SMAP"),
     (Kind::Lfo, "fp.set 1 mod ID FMAP imm NS EASE"),
+    (Kind::Tweener, "sp.set 1 mod ID SMAP imm NS EASE"),
+    (Kind::Tweener, "fp.new 1 mod ID FMAP FLOAT"),
+    (Kind::Lfo, "sp.new 1 mod ID SMAP SPEED"),
     (Kind::Clock, "fp.up 0 DT"),
     (Kind::Clock, "sp.up 0 DT"),
     (Kind::Lfo, "fp.up 1 DT"),
+    (Kind::Lfo, "sp.up 1 DT"),
 ];
 
 /// About how many random calls one station sees, so that its slots are used several times.
@@ -110,6 +133,7 @@ impl Ids {
             "fp.new 0 fix FLOAT FLOAT",
             "fp.new 1 fix FLOAT FLOAT",
             "sp.new 0 fix tps PACE tps PACE",
+            "sp.new 1 fix tps PACE tps PACE",
         ];
         self.lines = VecDeque::from(first.map(|form| self.accepted(form, random)));
     }
@@ -120,7 +144,7 @@ impl Ids {
             0..=5 => self.come_or_go(kind, random),
             6 => self.set_generation(kind, random),
             7 | 8 => self.say("frame DT", random),
-            9 | 10 => self.link(random),
+            9..=11 => self.link(random),
             _ => self.call(kind, random),
         }
     }
@@ -144,13 +168,18 @@ impl Ids {
             self.table_mut(kind)[slot as usize].kind = Kind::Empty;
             return format!("{}.drop {slot}:{generation}", name(kind));
         }
-        take(self.table_mut(kind), kind);
-        let form = match kind {
-            Kind::Clock => "clock.add fix tps PACE",
-            Kind::Tweener => "tweener.add FLOAT",
-            _ => "lfo.add WAVE fix FLOAT fix FLOAT fix FLOAT FLOAT",
-        };
-        self.accepted(form, random)
+        let form = random.pick(match kind {
+            Kind::Clock => &CLOCK_ADDS[..],
+            Kind::Tweener => &TWEENER_ADDS[..],
+            _ => &LFO_ADDS[..],
+        });
+        let form = self.followed(form, random);
+        let given = take(self.table_mut(kind), kind);
+        let line = self.accepted(&form, random);
+        if let Some(id) = given.filter(|_| line.contains(" mod ")) {
+            self.show(kind, id, random);
+        }
+        line
     }
 
     /// Mostly of the slot that the next add takes, so that what comes behind it is soon given.
@@ -174,28 +203,48 @@ impl Ids {
         format!("{}.gen {slot}:{generation}", name(kind))
     }
 
-    fn call(&self, kind: Kind, random: &mut Random) -> String {
+    fn call(&mut self, kind: Kind, random: &mut Random) -> String {
         let form = random.pick(match kind {
             Kind::Clock => &CLOCK_FORMS[..],
             Kind::Tweener => &TWEENER_FORMS[..],
             _ => &LFO_FORMS[..],
         });
         // A drop that is accepted is left to `come_or_go`, which keeps the picture right.
-        let (slot, generation) = match form.ends_with("drop ID") {
+        let id = match form.ends_with("drop ID") {
             true => self.missing(kind, random),
             false => self.id(kind, random),
         };
-        self.say(&form.replace("ID", &format!("{slot}:{generation}")), random)
+        let form = self.followed(&form.replace("ID", &word(id)), random);
+        if form.contains(" mod ") {
+            self.show(kind, id, random);
+        }
+        self.say(&form, random)
+    }
+
+    /// The form with a modulator, of either kind, in the place of MOD.
+    fn followed(&self, form: &str, random: &mut Random) -> String {
+        let kind = random.pick(&[Kind::Tweener, Kind::Lfo]);
+        form.replace("MOD", &word(self.id(kind, random)))
+    }
+
+    /// Behind a call that makes this follow something: a frame and a read, which show whether it does.
+    fn show(&mut self, kind: Kind, id: Id, random: &mut Random) {
+        let read = match kind {
+            Kind::Clock => "clock.getspeed",
+            _ => "mod.value",
+        };
+        self.lines.push_back(self.accepted("frame DT", random));
+        self.lines.push_back(format!("{read} {}", word(id)));
     }
 
     /// What waits for a clock or follows a modulator, and what shows that it does.
     fn link(&self, random: &mut Random) -> String {
         let (kind, form) = random.pick(&LINK_FORMS);
-        let (slot, generation) = self.id(kind, random);
-        self.say(&form.replace("ID", &format!("{slot}:{generation}")), random)
+        let id = self.id(kind, random);
+        self.say(&form.replace("ID", &word(id)), random)
     }
 
-    /// One of the kind that lives, in two of five; else any other.
+    /// One of the kind that lives, in two of five; else any.
     fn id(&self, kind: Kind, random: &mut Random) -> Id {
         let living = self.living(kind);
         if living.is_empty() || random.below(5) > 1 {
@@ -258,6 +307,10 @@ impl Ids {
             _ => &mut self.modulators,
         }
     }
+}
+
+fn word((slot, generation): Id) -> String {
+    format!("{slot}:{generation}")
 }
 
 /// What the calls of a kind's table begin with.

@@ -26,11 +26,12 @@ pub(super) const FRESH: Table = [Slot {
     generation: 0,
 }; SLOTS];
 
-/// The slot that an add takes, as document 01 has it.
-pub(super) fn take(table: &mut Table, kind: Kind) {
-    let free = |slot: &&mut Slot| slot.kind == Kind::Empty && slot.generation < u32::MAX;
-    if let Some(slot) = table.iter_mut().find(free) {
-        slot.kind = kind;
-        slot.generation += 1;
-    }
+/// The slot that an add takes, as document 01 has it, and the generation that it gives.
+pub(super) fn take(table: &mut Table, kind: Kind) -> Option<(u32, u32)> {
+    let free = |slot: &Slot| slot.kind == Kind::Empty && slot.generation < u32::MAX;
+    let place = table.iter().position(free)?;
+    let slot = &mut table[place];
+    slot.kind = kind;
+    slot.generation += 1;
+    Some((place as u32, slot.generation))
 }

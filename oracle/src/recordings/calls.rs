@@ -167,6 +167,7 @@ fn orders() -> Vec<Vec<u8>> {
         record("frame", 0, 0, 60.0),
         record("add", 5, 9, f64::NAN),
         record("speed", 5, 9, f64::NAN),
+        record("speed", 1, 1, f64::NAN),
         record("speed", 0, 1, f64::NAN),
         record("stop", 5, 9, 0.0),
         record("stop", 1, 1, 0.0),

@@ -7,7 +7,6 @@ use Rattle.ids.proofs.Places.{missingNumber}
 use Rattle.ids.specs.Tables.{whereIs, onFound, refusedCall, changed, freed, readFound}
 use Rattle.judge.specs.Answer.{Answer, accepted, refused, numberTold, onAccepted}
 use Rattle.judge.specs.Judge.{noFaults, firstFault}
-use Rattle.judge.specs.declared.Faults.{Faults}
 use Rattle.times.specs.declared.time.ClockId.{ClockId}
 use Rattle.values.specs.Values.{speedValueFaults}
 use Rattle.parameter.specs.SpeedParameters as speeds
@@ -22,19 +21,17 @@ use Rattle.commands.specs.ClockCommands.{doneAs, runClockOf}
 use Rattle.commands.specs.declared.clock_command.ClockCommand.{ClockCommand}
 use Rattle.commands.specs.declared.clock_command.ClockCommand.the-variants as command
 use Rattle.station.specs.declared.Station.{Station}
-use Rattle.laws.specs.Calls.{clock, refusal, done, callNumber}
+use Rattle.laws.specs.Calls.{clock, callNumber}
+use Rattle.laws.proofs.Refusals.{told-number}
 use Rattle.laws.proofs.lemmas.Entries.{Names, names-read, names-on}
 use Rattle.demands.specs.Events.{clockIn}
-use Rattle.demands.specs.Conditions.{byClock, setFaultsOn, ofClocks}
+use Rattle.demands.specs.Conditions.{setFaultsOn, ofClocks}
 use Rattle.demands.specs.Entries.{Sized}
 use Rattle.demands.specs.Order.{order, holds, firstIn}
 use Rattle.demands.proofs.lemmas.Asked.{judged-number, id-given}
-use Rattle.demands.proofs.lemmas.Lookups.{byId, by-living, entry-case, add-number}
+use Rattle.demands.proofs.lemmas.Lookups.{numberById, by-living, entry-case, add-number}
 
--- ---- answers
-
-done-number : (r : ClockDone) → numberTold (doneAs r .answer) ≡ r .refused
-done-number r = judged-number numberTold done (refusal (r .refused)) (r .refused) refl refl
+-- ---- the id
 
 module _ (st : Station) where
   module _ (w : Sized (st .clocks .keys) (st .clocks .clocks)) (id : ClockId) where
@@ -47,10 +44,7 @@ module _ (st : Station) where
 
     -- the number by the conditions of the id, or else n
     abbrev pub byClockId : ℕ → ℕ
-    byClockId n = byId (at .keys) (id .slot) (id .generation) n
-
-    pub clock-given : (f : Faults) → byClockId (firstFault f) ≡ firstIn order (holds (byClock st id f))
-    clock-given f = sym (id-given _ _ f)
+    byClockId n = numberById (at .keys) (id .slot) (id .generation) n
 
     -- the id names no clock, and decides whatever comes behind it; or it names one, and does not
     pub clock-case :
@@ -66,9 +60,9 @@ module _ (st : Station) where
         → numberTold (doneAs (onFound clockTable at (whereIs clockTable at id) f) .answer) ≡ byClockId (g (clockIn st id))
     on-number f g h =
         clock-case
-        (λ e m. ap (λ (w : Answer ℕ). numberTold (doneAs (onFound clockTable at w f) .answer)) e ∙ done-number (refusedCall clockTable at missing) ∙ sym (m (g (clockIn st id))))
+        (λ e m. ap (λ (w : Answer ℕ). numberTold (doneAs (onFound clockTable at w f) .answer)) e ∙ told-number missing ∙ sym (m (g (clockIn st id))))
         (λ c n m.
-        ap (λ (r : ClockDone). numberTold (doneAs r .answer)) (names-on at id c n f) ∙ done-number (f (id .slot) c) ∙ h c
+        ap (λ (r : ClockDone). numberTold (doneAs r .answer)) (names-on at id c n f) ∙ told-number (f (id .slot) c .refused) ∙ h c
         ∙ ap g (sym (names-read at id c n (λ x. x))) ∙ sym (m (g (clockIn st id))))
 
     read-number : {A : Type 0} (f : Clock → A) (k : A → Given) → numberTold (onAccepted k (readFound clockTable at (whereIs clockTable at id) f)) ≡ byClockId 0
@@ -82,19 +76,19 @@ module _ (st : Station) where
 pub clock-number : (st : Station) → Sized (st .clocks .keys) (st .clocks .clocks) → (c : ClockCommand) → callNumber st (clock c) ≡ firstIn order (holds (ofClocks st c))
 unfolding runClockOf addClockOf removeOf tickOnOf resetClockOf setSpeedOf clockTimeOf clockTickingOf clockSpeedOf firstFault speeds.trySetOf
 clock-number st w (command.Add v) = add-number clockTable (st .clocks) (speedValueFaults v) (newClock v) _
-clock-number st w (command.Remove id) = on-number st w id (λ i c. freed clockTable (st .clocks) i (id .generation)) (λ a. 0) (λ c. refl) ∙ clock-given st w id noFaults
-clock-number st w (command.Start id) = on-number st w id (λ i c. changed clockTable (st .clocks) i (tickingOf true c)) (λ a. 0) (λ c. refl) ∙ clock-given st w id noFaults
-clock-number st w (command.Stop id) = on-number st w id (λ i c. changed clockTable (st .clocks) i (tickingOf false c)) (λ a. 0) (λ c. refl) ∙ clock-given st w id noFaults
-clock-number st w (command.Reset id) = on-number st w id (λ i c. changed clockTable (st .clocks) i (resetOf c)) (λ a. 0) (λ c. refl) ∙ clock-given st w id noFaults
+clock-number st w (command.Remove id) = on-number st w id (λ i c. freed clockTable (st .clocks) i (id .generation)) (λ a. 0) (λ c. refl) ∙ sym (id-given _ _ noFaults)
+clock-number st w (command.Start id) = on-number st w id (λ i c. changed clockTable (st .clocks) i (tickingOf true c)) (λ a. 0) (λ c. refl) ∙ sym (id-given _ _ noFaults)
+clock-number st w (command.Stop id) = on-number st w id (λ i c. changed clockTable (st .clocks) i (tickingOf false c)) (λ a. 0) (λ c. refl) ∙ sym (id-given _ _ noFaults)
+clock-number st w (command.Reset id) = on-number st w id (λ i c. changed clockTable (st .clocks) i (resetOf c)) (λ a. 0) (λ c. refl) ∙ sym (id-given _ _ noFaults)
 clock-number st w (command.SetSpeed id v x) =
     on-number st w id (λ i c. bySet (st .clocks) i c (speeds.trySetOf (c .speed) v x)) (λ a. firstFault (setFaultsOn a v x)) set
-    ∙ clock-given st w id (setFaultsOn (clockIn st id) v x)
+    ∙ sym (id-given _ _ (setFaultsOn (clockIn st id) v x))
   where
     set : (c : Clock) → bySet (st .clocks) (id .slot) c (speeds.trySetOf (c .speed) v x) .refused ≡ firstFault (speeds.setFaults (c .speed) v x)
     set c =
         let s = speeds.trySetOf (c .speed) v x in
         judged-number (λ (r : ClockDone). r .refused) (changed clockTable (st .clocks) (id .slot) (spedOf (s .parameter) c)) (refusedCall clockTable (st .clocks) (s .refused)) (s .refused) refl refl
         ∙ judged-number (λ (r : SpeedSet). r .refused) (record { refused = 0; parameter = speeds.setOf (c .speed) v x }) (record { refused = firstFault (speeds.setFaults (c .speed) v x); parameter = c .speed }) (firstFault (speeds.setFaults (c .speed) v x)) refl refl
-clock-number st w (command.Time id) = read-number st w id (timeOf id) time ∙ clock-given st w id noFaults
-clock-number st w (command.Ticking id) = read-number st w id (λ c. c .ticking) flag ∙ clock-given st w id noFaults
-clock-number st w (command.Speed id) = read-number st w id (λ c. c .speed .raw) speed ∙ clock-given st w id noFaults
+clock-number st w (command.Time id) = read-number st w id (timeOf id) time ∙ sym (id-given _ _ noFaults)
+clock-number st w (command.Ticking id) = read-number st w id (λ c. c .ticking) flag ∙ sym (id-given _ _ noFaults)
+clock-number st w (command.Speed id) = read-number st w id (λ c. c .speed .raw) speed ∙ sym (id-given _ _ noFaults)

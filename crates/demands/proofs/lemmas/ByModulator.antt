@@ -1,5 +1,5 @@
--- The number that a call on the modulators is given: its id's where that names no living modulator, NEVER_ISSUED where
--- it names one of the other kind than the call acts on, else that of its arguments, and of an add, NO_ROOM where there
+-- The number that a call on the modulators is given: its id's where nothing lives under it, NEVER_ISSUED where what
+-- lives there is not of the kind that the call is for, else that of its arguments, and of an add, NO_ROOM where there
 -- is none. RULES, order. Assumes nothing.
 use Prim.Native.Nat.{ℕ}
 use mathlib.Core.Path.{_≡_, refl, sym, ap, _∙_}
@@ -30,16 +30,14 @@ use Rattle.commands.specs.ModulatorCommands.{doneAs, runModulatorOf}
 use Rattle.commands.specs.declared.modulator_command.ModulatorCommand.{ModulatorCommand}
 use Rattle.commands.specs.declared.modulator_command.ModulatorCommand.the-variants as command
 use Rattle.station.specs.declared.Station.{Station}
-use Rattle.laws.specs.Calls.{modulator, refusal, done, callNumber}
+use Rattle.laws.specs.Calls.{modulator, callNumber}
+use Rattle.laws.proofs.Refusals.{told-number}
 use Rattle.laws.proofs.lemmas.Entries.{Holds, holds-read}
-use Rattle.demands.specs.Conditions.{goneIn, neverIn, isTweener, isLfo, otherKind, byModulator, byKind, ofModulators}
+use Rattle.demands.specs.Conditions.{goneIn, neverIn, isTweener, isLfo, otherKind, byKind, ofModulators}
 use Rattle.demands.specs.Entries.{Sized}
 use Rattle.demands.specs.Order.{order, holds, firstIn}
 use Rattle.demands.proofs.lemmas.Asked.{judged-number, id-given}
-use Rattle.demands.proofs.lemmas.Lookups.{byId, by-living, entry-case, add-number}
-
-done-number : (r : ModulatorDone) → numberTold (doneAs r .answer) ≡ r .refused
-done-number r = judged-number numberTold done (refusal (r .refused)) (r .refused) refl refl
+use Rattle.demands.proofs.lemmas.Lookups.{numberById, by-living, entry-case, add-number}
 
 module _ (st : Station) where
   abbrev at : Modulators
@@ -56,7 +54,7 @@ module _ (st : Station) where
 
     -- the number by the conditions of the id, or else n
     abbrev byModulatorId : ℕ → ℕ
-    byModulatorId n = byId (at .keys) (id .slot) (id .generation) n
+    byModulatorId n = numberById (at .keys) (id .slot) (id .generation) n
 
     -- the id names no modulator, and decides whatever comes behind it; or it names one, and does not
     modulator-case :
@@ -64,13 +62,10 @@ module _ (st : Station) where
         → (livesIn (at .keys) (id .slot) (id .generation) ≡ true → whereIs modulatorTable at id ≡ accepted (id .slot) → (s : Slot) → Holds (at .slots) (id .slot) s → ((n : ℕ) → byModulatorId n ≡ n) → P) → P
     modulator-case n h = entry-case (at .keys) (at .slots) w (id .slot) (id .generation) n (λ l e s k. h l e s k (by-living (at .keys) (id .slot) (id .generation) l))
 
-    modulator-given : (f : Faults) → byModulatorId (firstFault f) ≡ firstIn order (holds (byModulator st id f))
-    modulator-given f = sym (id-given _ _ f)
-
     remove-number : numberTold (doneAs (onModulator at (whereIs modulatorTable at id) (λ i m. freed modulatorTable at i (id .generation))) .answer) ≡ byModulatorId 0
     remove-number =
         modulator-case
-        (λ e m. ap (λ (w : Answer ℕ). numberTold (doneAs (onModulator at w (λ i m. freed modulatorTable at i (id .generation))) .answer)) e ∙ done-number (refusedCall modulatorTable at missing) ∙ sym (m 0))
+        (λ e m. ap (λ (w : Answer ℕ). numberTold (doneAs (onModulator at w (λ i m. freed modulatorTable at i (id .generation))) .answer)) e ∙ told-number missing ∙ sym (m 0))
         (λ l e s k m. rw (e, m 0, holds-read (refusedCall modulatorTable at «NEVER_ISSUED») (λ (s : Slot). freed modulatorTable at (id .slot) (id .generation)) (at .slots) (id .slot) s k))
 
     value-number : numberTold (onAccepted value (readFound modulatorTable at (whereIs modulatorTable at id) slotValue)) ≡ byModulatorId 0
@@ -99,11 +94,11 @@ module _ (st : Station) where
         → numberTold (doneAs (onModulator at (whereIs modulatorTable at id) f) .answer) ≡ byModulatorId (cond (otherKind t st id) «NEVER_ISSUED» n)
     on-number t n f h =
         modulator-case
-        (λ e m. ap (λ (w : Answer ℕ). numberTold (doneAs (onModulator at w f) .answer)) e ∙ done-number (refusedCall modulatorTable at missing) ∙ sym (m (cond (otherKind t st id) «NEVER_ISSUED» n)))
+        (λ e m. ap (λ (w : Answer ℕ). numberTold (doneAs (onModulator at w f) .answer)) e ∙ told-number missing ∙ sym (m (cond (otherKind t st id) «NEVER_ISSUED» n)))
         (λ l e s k m.
         ap (λ (w : Answer ℕ). numberTold (doneAs (onModulator at w f) .answer)) e
         ∙ ap (λ (r : ModulatorDone). numberTold (doneAs r .answer)) (holds-read (refusedCall modulatorTable at «NEVER_ISSUED») (λ (s : Slot). f (id .slot) (s .modulator)) (at .slots) (id .slot) s k)
-        ∙ done-number (f (id .slot) (s .modulator)) ∙ h (s .modulator)
+        ∙ told-number (f (id .slot) (s .modulator) .refused) ∙ h (s .modulator)
         ∙ rw (l, holds-read false (λ (s : Slot). t (s .modulator)) (at .slots) (id .slot) s k) refl)
 
     tweener-number : (n : ℕ) (to : Tweener → Modulator) (m : Modulator) → onTweener at m (λ old. cond (eqb n 0) (changedTo at (id .slot) (to old)) (refusedCall modulatorTable at n)) .refused ≡ cond (not (isTweener m)) «NEVER_ISSUED» n
@@ -120,7 +115,7 @@ pub modulator-number :
 unfolding runModulatorOf addTweenerOf addLfoOf removeOf setTweenerOf setParameterOf setWaveformOf setPhaseOf modulatorValueOf firstFault
 modulator-number st w (command.AddTweener x) = add-number modulatorTable (st .modulators) (floatFaults x) (slotOf (OfTweener (newTweener x))) _
 modulator-number st w (command.AddLfo b) = add-number modulatorTable (st .modulators) (builderFaults b) (slotOf (OfLfo (newLfo b))) _
-modulator-number st w (command.Remove id) = remove-number st w id ∙ modulator-given st w id noFaults
+modulator-number st w (command.Remove id) = remove-number st w id ∙ sym (id-given _ _ noFaults)
 modulator-number st w (command.SetTweener id x y) =
     on-number st w id isTweener (firstFault (tweenerFaults x y)) _ (tweener-number st w id (firstFault (tweenerFaults x y)) (λ old. OfTweener (tweenerToOf x y old)))
     ∙ kind-given st w id isTweener (tweenerFaults x y)
@@ -133,4 +128,4 @@ modulator-number st w (command.SetWaveform id y) =
 modulator-number st w (command.SetPhase id x) =
     on-number st w id isLfo (firstFault (floatFaults x)) _ (lfo-number st w id (firstFault (floatFaults x)) (λ old. OfLfo (withPhaseOf x old)))
     ∙ kind-given st w id isLfo (floatFaults x)
-modulator-number st w (command.Value id) = value-number st w id ∙ modulator-given st w id noFaults
+modulator-number st w (command.Value id) = value-number st w id ∙ sym (id-given _ _ noFaults)

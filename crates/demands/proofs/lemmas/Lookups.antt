@@ -22,7 +22,7 @@ use Rattle.judge.specs.declared.Faults.{Faults}
 use Rattle.judge.proofs.Judged.{nothing-wrong}
 use Rattle.ids.proofs.Places.{read-past, lives-inside, missingNumber, find-living, find-missing}
 use Rattle.laws.proofs.lemmas.Entries.{Holds}
-use Rattle.demands.specs.Conditions.{strange, goneIn, neverIn, everyTaken}
+use Rattle.demands.specs.Conditions.{ungiven, goneIn, neverIn, everyTaken}
 use Rattle.demands.specs.Entries.{Sized}
 use Rattle.demands.specs.Order.{order, holds, firstIn}
 use Rattle.demands.proofs.lemmas.Asked.{judged-number, all-given}
@@ -38,17 +38,17 @@ inside-holds (x ∷ l) (suc i) h = inside-holds l i (le-of-suc-le-suc h)
 
 module _ (ks : List Key) (i g : ℕ) where
   -- the number by the conditions of the id, or else n
-  abbrev pub byId : ℕ → ℕ
-  byId n = cond (goneIn ks i g) «GONE» (cond (neverIn ks i g) «NEVER_ISSUED» n)
+  abbrev pub numberById : ℕ → ℕ
+  numberById n = cond (goneIn ks i g) «GONE» (cond (neverIn ks i g) «NEVER_ISSUED» n)
 
-  -- where the table has no more than 16 slots, an id is strange exactly where its slot has not given it
-  pub strange-is : length ks ≤ 16 → not (strange ks i g) ≡ wasGiven (generationAt ks i) g
-  strange-is s = go g (decLe g (generationAt ks i)) (decLe 16 i)
+  -- where the table has no more than 16 slots, an id is ungiven exactly where its slot has not given it out
+  pub ungiven-is : length ks ≤ 16 → not (ungiven ks i g) ≡ wasGiven (generationAt ks i) g
+  ungiven-is s = go g (decLe g (generationAt ks i)) (decLe 16 i)
     where
       inside : (h : ℕ) → 16 ≤ i → suc h ≤ generationAt ks i → ⊥
       inside h o p = omega (arith, p, read-past 0 (λ (k : Key). k .generation) ks i (omega (arith, s, o)))
 
-      go : (g : ℕ) → Dec (g ≤ generationAt ks i) → Dec (16 ≤ i) → not (strange ks i g) ≡ wasGiven (generationAt ks i) g
+      go : (g : ℕ) → Dec (g ≤ generationAt ks i) → Dec (16 ≤ i) → not (ungiven ks i g) ≡ wasGiven (generationAt ks i) g
       go zero d o = refl
       go (suc h) (yes p) (yes o) = absurd (inside h o p)
       go (suc h) (yes p) (no n) =
@@ -57,20 +57,20 @@ module _ (ks : List Key) (i g : ℕ) where
           rw (ne-eqb (suc h) 0 (λ e. omega arith), le-leb 1 (suc h) (omega arith), lt-leb (suc h) (generationAt ks i) (omega (arith, n)), lt-ltb (generationAt ks i) (suc h) (omega (arith, n)))
 
   -- an id that does not live decides, whatever n comes behind it
-  pub by-missing : length ks ≤ 16 → livesIn ks i g ≡ false → (n : ℕ) → byId n ≡ missingNumber ks i g
-  by-missing s l n = rw l (go (strange ks i g) (strange-is s))
+  by-missing : length ks ≤ 16 → livesIn ks i g ≡ false → (n : ℕ) → numberById n ≡ missingNumber ks i g
+  by-missing s l n = rw l (go (ungiven ks i g) (ungiven-is s))
     where
       go : (b : Bool) → not b ≡ wasGiven (generationAt ks i) g → cond (not b) «GONE» (cond b «NEVER_ISSUED» n) ≡ missingNumber ks i g
       go true e = rw (← e)
       go false e = rw (← e)
 
-  pub by-living : livesIn ks i g ≡ true → (n : ℕ) → byId n ≡ n
+  pub by-living : livesIn ks i g ≡ true → (n : ℕ) → numberById n ≡ n
   by-living l n = rw l
 
 module _ {A : Type 0} (ks : List Key) (es : List A) (w : Sized ks es) (i g : ℕ) {P : Type 0} where
   -- the lookup refuses by the id's own number; or the id lives, and its slot is found
   pub entry-case :
-      (findOf ks i g ≡ refused (missingNumber ks i g) → ((n : ℕ) → byId ks i g n ≡ missingNumber ks i g) → P)
+      (findOf ks i g ≡ refused (missingNumber ks i g) → ((n : ℕ) → numberById ks i g n ≡ missingNumber ks i g) → P)
       → (livesIn ks i g ≡ true → findOf ks i g ≡ accepted i → (x : A) → Holds es i x → P) → P
   entry-case n h = go (livesIn ks i g) refl
     where

@@ -32,7 +32,7 @@ use Rattle.values.specs.declared.value.SpeedValue.{SpeedValue}
 use Rattle.parameter.specs.SpeedParameters.{trySetOf, updateOf}
 use Rattle.parameter.specs.declared.speed.SpeedParameter.{SpeedParameter}
 use Rattle.clock.specs.OneClock.{defaultSpeed, newClock, positionOf, freshOf, advanceOf, sumOf, byTurn, noReport, tickingOf, spedOf, resetOf, tickOf, updateClockOf}
-use Rattle.ids.specs.Tables.{Added, refusedCall, refusedAdd, whereIs, onFound, changed, freed, placedIn}
+use Rattle.ids.specs.Tables.{Added, refusedCall, whereIs, onFound, changed, freed, placedIn}
 use Rattle.clock_table.specs.ClockTables.{clockTable, addClockOf, bySet, removeOf, tickOnOf, resetClockOf, setSpeedOf}
 use Rattle.clock.specs.declared.Clock.{Clock}
 use Rattle.clock.specs.declared.ClockState.{ClockState}

@@ -10,7 +10,7 @@ use lib.Dec.{eqb}
 use lib.Ieee.{Float}
 use Rattle.ids.specs.Keys.{Place, place, roomAt, freeOf, livesIn, takenAt, leftAt}
 use Rattle.ids.specs.Lists.{readAt}
-use Rattle.ids.specs.Tables.{Added, placedIn, changed, freed, onFound, refusedAdd, refusedCall, whereIs}
+use Rattle.ids.specs.Tables.{placedIn, changed, freed, onFound, refusedAdd, refusedCall, whereIs}
 use Rattle.ids.specs.declared.Key.{Key}
 use Rattle.ids.proofs.Places.{found-case}
 use Rattle.judge.specs.Answer.{Answer, accepted, refused, isRefused, onAccepted}

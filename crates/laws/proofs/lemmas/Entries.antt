@@ -2,15 +2,15 @@
 -- id gives it. Assumes nothing.
 use Prim.Native.Nat.{ℕ, zero, suc, _<_, suc-le-suc}
 use native.Mathlib.Omega.{arith}
-use mathlib.Core.Path.{_≡_, refl, sym, ap, _∙_}
-use mathlib.Core.Bool.{Bool, true, false, _&&_, cond, false≢true}
+use mathlib.Core.Path.{_≡_, sym, ap, _∙_}
+use mathlib.Core.Bool.{true, false≢true}
 use mathlib.Core.List.{List, [], _∷_}
 use lib.ListN.{length, set}
-use lib.Dec.{eqb}
 use Rattle.ids.specs.Keys.{roomAt, freeOf, livesIn, usedAt}
 use Rattle.ids.specs.Lists.{readAt}
 use Rattle.ids.specs.declared.Key.{Key}
-use Rattle.ids.proofs.Places.{read-set-same, read-set-other, lives-parts, find-living, found-case, gives}
+use Rattle.ids.proofs.Names as names
+use Rattle.ids.proofs.Places.{read-set-same, read-set-other, find-living, found-case, gives}
 use Rattle.judge.specs.Answer.{Answer, accepted, refused}
 use Rattle.judge.specs.Numbers.{«NEVER_ISSUED»}
 use Rattle.times.specs.declared.time.ClockId.{ClockId}
@@ -52,11 +52,7 @@ module _ {A : Type 0} where
 -- ---- a call that acts elsewhere
 
 pub lives-used : (ks : List Key) (i g : ℕ) → livesIn ks i g ≡ true → usedAt ks i ≡ true
-lives-used ks i g l = go (usedAt ks i) (eqb _ g) (rw lives-parts at l)
-  where
-    go : (u b : Bool) → (u && b) ≡ true → u ≡ true
-    go true b e = refl
-    go false b e = e
+lives-used ks i g l = names.living ks i g l .occupied
 
 -- an add takes no slot in which an id lives
 taken : (ks : List Key) (j h i g : ℕ) → livesIn ks j h ≡ true → freeOf 0 ks ≡ roomAt i g → j ≡ i → ⊥

@@ -45,22 +45,22 @@ lengths (removes i g l) n = (simp length-set, refl)
 lengths (adds i g x e) n = (simp length-set, simp length-set)
 lengths (turns fs) n = absurd (n refl)
 
-not-all : (c : ClockCommand) → clockTarget c ≡ all → ⊥
-not-all (command.Add v) e = let z : _≡_ {A = ℕ} 0 1 = cc in omega arith
-not-all (command.Remove j) e = let z : _≡_ {A = ℕ} 0 1 = cc in omega arith
-not-all (command.Start j) e = let z : _≡_ {A = ℕ} 0 1 = cc in omega arith
-not-all (command.Stop j) e = let z : _≡_ {A = ℕ} 0 1 = cc in omega arith
-not-all (command.Reset j) e = let z : _≡_ {A = ℕ} 0 1 = cc in omega arith
-not-all (command.SetSpeed j v w) e = let z : _≡_ {A = ℕ} 0 1 = cc in omega arith
-not-all (command.Time j) e = let z : _≡_ {A = ℕ} 0 1 = cc in omega arith
-not-all (command.Ticking j) e = let z : _≡_ {A = ℕ} 0 1 = cc in omega arith
-not-all (command.Speed j) e = let z : _≡_ {A = ℕ} 0 1 = cc in omega arith
+clock-not-all : (c : ClockCommand) → clockTarget c ≡ all → ⊥
+clock-not-all (command.Add v) e = let z : _≡_ {A = ℕ} 0 1 = cc in omega arith
+clock-not-all (command.Remove j) e = let z : _≡_ {A = ℕ} 0 1 = cc in omega arith
+clock-not-all (command.Start j) e = let z : _≡_ {A = ℕ} 0 1 = cc in omega arith
+clock-not-all (command.Stop j) e = let z : _≡_ {A = ℕ} 0 1 = cc in omega arith
+clock-not-all (command.Reset j) e = let z : _≡_ {A = ℕ} 0 1 = cc in omega arith
+clock-not-all (command.SetSpeed j v w) e = let z : _≡_ {A = ℕ} 0 1 = cc in omega arith
+clock-not-all (command.Time j) e = let z : _≡_ {A = ℕ} 0 1 = cc in omega arith
+clock-not-all (command.Ticking j) e = let z : _≡_ {A = ℕ} 0 1 = cc in omega arith
+clock-not-all (command.Speed j) e = let z : _≡_ {A = ℕ} 0 1 = cc in omega arith
 
 -- ---- clocks
 
 module _ (st : Station) (s : Sixteen (st .clocks)) where
   pub call-sixteen : (c : Call) → Sixteen (after st c .clocks)
-  call-sixteen (clock c) = let l = lengths (deed ofClock st (clock c)) (not-all c) in record { keys = l .0 ∙ s .keys; clocks = l .1 ∙ s .clocks }
+  call-sixteen (clock c) = let l = lengths (deed ofClock st (clock c)) (clock-not-all c) in record { keys = l .0 ∙ s .keys; clocks = l .1 ∙ s .clocks }
   call-sixteen (modulator c) = s
   call-sixteen (frame dt) = go (ℕ-discrete (frameOf st dt .refused) 0)
     where
@@ -82,15 +82,15 @@ pub record SixteenSlots (t : Modulators) : Type 0 where
   pub keys : length (t .keys) ≡ 16
   pub slots : length (t .slots) ≡ 16
 
-other-all : (c : ModulatorCommand) → modulatorTarget c ≡ all → ⊥
-other-all (modulators.AddTweener x) e = let z : _≡_ {A = ℕ} 0 1 = cc in omega arith
-other-all (modulators.AddLfo b) e = let z : _≡_ {A = ℕ} 0 1 = cc in omega arith
-other-all (modulators.Remove j) e = let z : _≡_ {A = ℕ} 0 1 = cc in omega arith
-other-all (modulators.SetTweener j x w) e = let z : _≡_ {A = ℕ} 0 1 = cc in omega arith
-other-all (modulators.SetParameter j p v w) e = let z : _≡_ {A = ℕ} 0 1 = cc in omega arith
-other-all (modulators.SetWaveform j w) e = let z : _≡_ {A = ℕ} 0 1 = cc in omega arith
-other-all (modulators.SetPhase j x) e = let z : _≡_ {A = ℕ} 0 1 = cc in omega arith
-other-all (modulators.Value j) e = let z : _≡_ {A = ℕ} 0 1 = cc in omega arith
+modulator-not-all : (c : ModulatorCommand) → modulatorTarget c ≡ all → ⊥
+modulator-not-all (modulators.AddTweener x) e = let z : _≡_ {A = ℕ} 0 1 = cc in omega arith
+modulator-not-all (modulators.AddLfo b) e = let z : _≡_ {A = ℕ} 0 1 = cc in omega arith
+modulator-not-all (modulators.Remove j) e = let z : _≡_ {A = ℕ} 0 1 = cc in omega arith
+modulator-not-all (modulators.SetTweener j x w) e = let z : _≡_ {A = ℕ} 0 1 = cc in omega arith
+modulator-not-all (modulators.SetParameter j p v w) e = let z : _≡_ {A = ℕ} 0 1 = cc in omega arith
+modulator-not-all (modulators.SetWaveform j w) e = let z : _≡_ {A = ℕ} 0 1 = cc in omega arith
+modulator-not-all (modulators.SetPhase j x) e = let z : _≡_ {A = ℕ} 0 1 = cc in omega arith
+modulator-not-all (modulators.Value j) e = let z : _≡_ {A = ℕ} 0 1 = cc in omega arith
 
 module _ (info : Info) (dt : Float) (keys : List Key) where
   -- a turn stores into the slots that are there
@@ -141,7 +141,7 @@ run-slots st s (c ∷ cs) = run-slots (after st c) (go c) cs
   where
     go : (c : Call) → SixteenSlots (after st c .modulators)
     go (clock c) = s
-    go (modulator c) = let l = lengths (deed ofModulator st (modulator c)) (other-all c) in record { keys = l .0 ∙ s .keys; slots = l .1 ∙ s .slots }
+    go (modulator c) = let l = lengths (deed ofModulator st (modulator c)) (modulator-not-all c) in record { keys = l .0 ∙ s .keys; slots = l .1 ∙ s .slots }
     go (frame dt) = record { keys = ap length (frame-keys ofModulator st dt) ∙ s .keys; slots = frame-slots st dt ∙ s .slots }
 
 pub reached-slots : (cs : List Call) → SixteenSlots (afterAll freshStation cs .modulators)

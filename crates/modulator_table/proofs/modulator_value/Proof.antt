@@ -3,7 +3,7 @@ use Prim.Native.Nat.{_<_}
 use native.Mathlib.Omega.{arith}
 use Rattle.judge.specs.Answer.{accepted, refused}
 use Rattle.judge.specs.Numbers.{«NEVER_ISSUED»}
-use Rattle.ids.proofs.Places.{Living, some-slot, living, missing, living-read}
+use Rattle.ids.proofs.Places.{some-slot, living, missing, living-read}
 use Rattle.modulator_table.specs.ModulatorTables.{slotValue, modulatorValueOf}
 use Rattle.modulator_table.specs.declared.Slot.{Slot}
 use Rattle.modulator_table.proofs.Lookups.{Sixteen, sixteen}

@@ -11,10 +11,8 @@ fn after(lines: &str, call: &str) -> String {
 /// Rows of an id and its refusal's number, as in `0:1=7 0:2=0`; 0 stands for a call that is accepted. Each id is asked
 /// for in the place of `ID`, on a station of its own.
 fn refused(lines: &str, call: &str, rows: &str) {
-    for (id, number) in rows
-        .split_whitespace()
-        .filter_map(|row| row.split_once('='))
-    {
+    for row in rows.split_whitespace() {
+        let (id, number) = row.split_once('=').expect("an id and a number");
         let answer = after(lines, &call.replace("ID", id));
         assert_ne!(answer, "error", "{call} {id}");
         let told = answer.strip_prefix("refused ");
@@ -185,10 +183,8 @@ fn waits_and_links_are_never_refused_for_their_ids() {
     let ends = "0000000000000000 3ff0000000000000";
     let paces = "tps 3ff0000000000000 tps 4000000000000000";
     let rows = format!("{DEAD} {NEVER}");
-    for (id, _) in rows
-        .split_whitespace()
-        .filter_map(|row| row.split_once('='))
-    {
+    for row in rows.split_whitespace() {
+        let (id, _) = row.split_once('=').expect("an id and a number");
         let when = after(CLOCKS, &format!("when {id} 0 0000000000000000"));
         assert_eq!(when, "never", "{id}");
         let start = format!("clk {id} 0 0000000000000000");
