@@ -61,10 +61,10 @@ fn missing(last: u32, generation: u32) -> u32
     if generation == 0 {
         return NEVER_ISSUED;
     }
-    if generation > last {
-        return NEVER_ISSUED;
+    if generation <= last {
+        return GONE;
     }
-    GONE
+    NEVER_ISSUED
 }
 
 // What an id is to a table. Every call by an id asks it here, and carries the number.

@@ -7,10 +7,10 @@ returns : tie.Need-returns
 returns c = given-zero _ _ (c .if1 .taken)
 
 returns-2 : tie.Need-returns-2
-returns-2 c = given-above _ _ (c .if2 .taken)
+returns-2 c = given-once _ _ (c .before .if1 .left) (c .if2 .taken)
 
 returns-3 : tie.Need-returns-3
-returns-3 c = given-once _ _ (c .before .if1 .left) (c .if2 .left)
+returns-3 c = given-above _ _ (c .if2 .left)
 
 pub missing-spec : {M : Type 1} → statement M
 missing-spec = tie.close (tie.spec returns returns-2 returns-3)

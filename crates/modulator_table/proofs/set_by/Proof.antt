@@ -6,7 +6,7 @@ use Rattle.modulator_table.proofs.set_by.Tie as tie
 
 returns : tie.Need-returns
 unfolding changedBy
-returns c = rw (ne-eqb _ 0 (c .if1 .taken), ne-eqb _ 0 (c .if1 .taken))
+returns c = simp (ne-eqb _ 0 (c .if1 .taken))
 
 returns-2 : tie.Need-returns-2
 unfolding changedBy
