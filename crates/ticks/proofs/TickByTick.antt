@@ -1,15 +1,18 @@
--- 01 takes whole ticks off a sum one by one, and the definition takes them at once. Up to 2 ^ 53, far above the sums of
--- accepted frames, the two come to the same: `tick-by-tick`. RULES, whole-ticks. Assumes nothing.
+-- 01 takes whole ticks off a sum one by one, and the definition takes them at once. Up to 2 ^ 53 the two come to the
+-- same: `tick-by-tick`. So they do for every sum of an accepted turn: `turn-by-tick`. RULES, whole-ticks. Assumes
+-- nothing.
 use mathlib.Core.Path.{_≡_, refl, sym, _∙_, subst}
 use Prim.Native.Nat.{ℕ, zero, suc, _+_, _-_, _^_, _≤_, _<_}
 use native.Mathlib.Omega.{arith}
 use mathlib.Core.Bool.{Bool, true, false, cond}
 use lib.Dec.{T, ltb}
-use lib.Ieee.{Float, binary64, sub, le, fits}
-use lib.Ieee.Fits.{sub-fits}
+use lib.IntN.{pos}
+use lib.Ieee.{Float, fin, binary64, add, sub, le, fits}
+use lib.Ieee.Fits.{add-fits, sub-fits}
 use borrow.Author.Tests.{ltb-true, ltb-false}
-use Rattle.doubles.specs.Doubles.{oneF, fractOf}
+use Rattle.doubles.specs.Doubles.{zeroF, oneF, fractOf}
 use Rattle.doubles.specs.Intervals.{Between}
+use Rattle.doubles.proofs.Unit.{add-mono, le-trans}
 use Rattle.judge.specs.Answer.{Answer}
 use Rattle.ticks.specs.WholeTicks.{roomFor, takenOf}
 use Rattle.ticks.specs.declared.Position.{Position}
@@ -68,3 +71,14 @@ tick-by-tick (suc k) n x K N F L = go (tick-by-tick k (n + 1) (sub binary64 x on
     go : Rest → (b : Bool) → le oneF x ≡ b → cond b (cond (ltb n (2 ^ 64 - 1)) (tickByTick k (n + 1) y) full) (kept n x) ≡ takenOf n x
     go rest false e = sym (taken-part n x e)
     go rest true e = turn rest (record { least = subst T (sym e) tt; most = L }) (ltb n (2 ^ 64 - 1)) refl
+
+-- ---- a clock's turn: a fraction of 0 to 1, and an advance that is not TOO_FAR
+
+abbrev farthest : Float
+farthest = fin false 1 (pos 16)
+
+pub turn-by-tick : (n : ℕ) (f a : Float) → n ≤ 2 ^ 64 - 1 → Between zeroF f oneF → Between zeroF a farthest → tickByTick (ticksOf (add binary64 f a)) n (add binary64 f a) ≡ takenOf n (add binary64 f a)
+turn-by-tick n f a N h k =
+    let x = add binary64 f a in
+    let r : Between zeroF x (add binary64 oneF farthest) = add-mono binary64 f a oneF farthest tt tt h k in
+    tick-by-tick (ticksOf x) n x (omega arith) N (add-fits binary64 f a) (le-trans x (add binary64 oneF farthest) limitF (r .most) (unfold add le in tt))
