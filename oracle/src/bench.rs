@@ -2,7 +2,6 @@
 
 mod clocks;
 mod curves;
-mod feed;
 mod floats;
 mod frames;
 mod given;
@@ -23,38 +22,24 @@ mod words;
 
 use std::{env, io, process::ExitCode};
 
-use feed::Feed;
 use judge::Faults;
 use station::Station;
 use words::Words;
 
-/// A station and a recording that comes in portions, and the calls on them. Neither touches the other.
+/// A station and the calls on it.
 pub(crate) struct Bench {
     station: Station,
-    feed: Feed,
 }
 
 impl Bench {
     pub(crate) fn new() -> Self {
-        Self {
-            station: Station::new(),
-            feed: Feed::new(),
-        }
+        let station = Station::new();
+        Self { station }
     }
 
     /// The answer to one line, or nothing where the line is skipped.
     pub(crate) fn answer(&mut self, line: &[u8]) -> Option<String> {
-        if line.len() > lines::LONGEST {
-            return Some("error".to_string());
-        }
-        if line.first() == Some(&b'#') {
-            return None;
-        }
-        let mut words = Words::of(line);
-        let call = words.word()?;
-        let answer = feed::answer(call, words, &mut self.feed)
-            .or_else(|| dispatch(call, words, &mut self.station));
-        Some(answer.unwrap_or_else(|| "error".to_string()))
+        answer(line, &mut self.station)
     }
 }
 
@@ -73,6 +58,19 @@ pub(crate) fn run() -> ExitCode {
         eprintln!("{}", less::counts());
     }
     ExitCode::SUCCESS
+}
+
+/// The answer to one line, or nothing where the line is skipped.
+fn answer(line: &[u8], station: &mut Station) -> Option<String> {
+    if line.len() > lines::LONGEST {
+        return Some("error".to_string());
+    }
+    if line.first() == Some(&b'#') {
+        return None;
+    }
+    let mut words = Words::of(line);
+    let call = words.word()?;
+    Some(dispatch(call, words, station).unwrap_or_else(|| "error".to_string()))
 }
 
 /// Asks each family in turn. A family answers nothing to what is no call of its own.

@@ -3,8 +3,6 @@
 include!("original.rs");
 
 mod bench;
-#[allow(dead_code)]
-mod recording;
 
 fn main() -> std::process::ExitCode {
     bench::run()

@@ -10,84 +10,58 @@ use crate::bench::Bench;
 use reader::Record;
 
 /// The most bytes that a recording may have.
-pub(crate) const MOST: u64 = 1 << 63;
+pub(crate) const MOST: usize = 65_536;
 
+const BUFFER: u8 = 11;
 const TRACE: u8 = 13;
 const WRONG_ID: u8 = 14;
-const UNFINISHED: u8 = 16;
 
 /// Why a recording was not replayed to its end.
 #[derive(Debug, Clone, Copy, PartialEq)]
 pub(crate) enum Refusal {
-    /// The offset of the bad line, or of the first byte that is too many.
-    Trace(u64),
+    TooLong,
+    /// The offset of the bad line, or of the end inside a record.
+    Trace(usize),
     /// A call's own number or that of a wrong id, and the record.
     Call(u8, usize),
-    /// The recording ends inside a record.
-    Unfinished,
 }
 
 impl Refusal {
     pub(crate) fn number(self) -> u8 {
         match self {
+            Self::TooLong => BUFFER,
             Self::Trace(_) => TRACE,
             Self::Call(number, _) => number,
-            Self::Unfinished => UNFINISHED,
         }
     }
 
     /// What standard error says of it.
     pub(crate) fn place(self) -> String {
         match self {
+            Self::TooLong => String::new(),
             Self::Trace(offset) => format!("refused {TRACE} at byte {offset}\n"),
             Self::Call(number, record) => format!("refused {number} in record {record}\n"),
-            Self::Unfinished => format!("refused {UNFINISHED}\n"),
         }
-    }
-}
-
-/// What a recording's bytes come to, be they all of it or not.
-pub(crate) struct Reading {
-    /// Of the clocks that live behind the last record that was run, in slot order.
-    pub(crate) reports: String,
-    pub(crate) refusal: Option<Refusal>,
-    /// Whether a record is begun and not whole.
-    open: bool,
-}
-
-impl Reading {
-    /// What is refused where no byte follows.
-    pub(crate) fn at_end(&self) -> Option<Refusal> {
-        self.refusal.or(self.open.then_some(Refusal::Unfinished))
     }
 }
 
 /// The reports of the clocks that live at the end, in slot order, or the first refusal.
 pub(crate) fn replay(recording: &[u8]) -> Result<String, Refusal> {
-    let reading = read(0, recording);
-    match reading.at_end() {
-        None => Ok(reading.reports),
-        Some(refusal) => Err(refusal),
+    if recording.len() > MOST {
+        return Err(Refusal::TooLong);
     }
-}
-
-/// Reads all bytes at once. The first of them stands at the offset `at`, which is at most `MOST`; records are counted
-/// from it on.
-pub(crate) fn read(at: u64, bytes: &[u8]) -> Reading {
-    let room = usize::try_from(MOST - at).unwrap_or(usize::MAX);
-    let allowed = &bytes[..bytes.len().min(room)];
     let mut replay = Replay {
         bench: Bench::new(),
         living: BTreeMap::new(),
     };
-    let ran = replay.run_all(at, allowed);
-    // The byte that is too many counts only where nothing before it was refused.
-    let over = (bytes.len() > room).then_some(Refusal::Trace(MOST));
-    Reading {
-        reports: replay.reports(),
-        refusal: ran.err().or(over),
-        open: ran == Ok(true),
+    let (mut start, mut number) = (0, 0);
+    while start < recording.len() {
+        let (record, end) = reader::record(recording, start).map_err(Refusal::Trace)?;
+        let refused = |refusal| Refusal::Call(refusal, number);
+        replay.run(&record).map_err(refused)?;
+        (start, number) = (end, number + 1);
     }
+    Ok(replay.reports())
 }
 
 /// A station, and the ids that live on it, by their slots.
@@ -104,23 +78,7 @@ impl Replay {
         answer
     }
 
-    /// Runs record after record. True where the bytes end inside one.
-    fn run_all(&mut self, at: u64, bytes: &[u8]) -> Result<bool, Refusal> {
-        let (mut start, mut number) = (0, 0);
-        while start < bytes.len() {
-            let trace = |offset| Refusal::Trace(at + offset as u64);
-            let Some((record, end)) = reader::record(bytes, start).map_err(trace)? else {
-                return Ok(true);
-            };
-            let refused = |refusal| Refusal::Call(refusal, number);
-            self.run(&record).map_err(refused)?;
-            (start, number) = (end, number + 1);
-        }
-        Ok(false)
-    }
-
-    /// Makes a record's call. Nothing follows one that is refused, so a wrong id is not taken back; it is no id that is
-    /// reported.
+    /// Makes a record's call. Nothing follows one that is refused, so a wrong id is not taken back.
     fn run(&mut self, record: &Record) -> Result<(), u8> {
         let answer = self.ask(&call(record));
         if let Some(number) = answer.strip_prefix("refused ") {

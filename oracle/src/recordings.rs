@@ -32,8 +32,6 @@ mod made;
 mod random;
 #[path = "recordings/runs.rs"]
 mod runs;
-#[path = "recordings/text.rs"]
-mod text;
 
 use std::{
     env,

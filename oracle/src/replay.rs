@@ -13,7 +13,9 @@ use std::io::{self, Read, Write};
 
 fn main() -> io::Result<()> {
     let mut input = Vec::new();
-    io::stdin().read_to_end(&mut input)?;
+    // One byte over the most is enough to know that there are too many.
+    let most = recording::MOST as u64 + 1;
+    io::stdin().take(most).read_to_end(&mut input)?;
     match recording::replay(&input) {
         Ok(reports) => io::stdout().write_all(reports.as_bytes()),
         Err(refusal) => {

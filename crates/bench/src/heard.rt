@@ -1,6 +1,6 @@
 // The program's own part: a line that was heard. Its name is looked up once, here. Proved safe, with no equations:
 // docs/EXCEPTIONS.md says why.
-use names::{Call, FeedCall, ParameterCall, call_of};
+use names::{Call, ParameterCall, call_of};
 use text::Word;
 
 // What a call is for, of what the program holds. Seen: the station, which it leaves as it is.
@@ -11,7 +11,6 @@ pub enum Part {
     Seen,
     Floats(ParameterCall),
     Speeds(ParameterCall),
-    Fed(FeedCall),
     Nothing,
 }
 
@@ -88,7 +87,6 @@ pub fn part_of(call: Call) -> Part {
         Call::Question(_) => Part::Seen,
         Call::FloatParameter(c) => Part::Floats(c),
         Call::SpeedParameter(c) => Part::Speeds(c),
-        Call::Feed(c) => Part::Fed(c),
         _ => Part::Nothing,
     }
 }

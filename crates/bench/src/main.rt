@@ -2,7 +2,6 @@
 // docs/BENCH.md has the calls. Input has no cap: it is taken in portions, and what has been read is
 // answered before more is read.
 mod families;
-mod feeds;
 mod heard;
 mod holds;
 mod limits;
@@ -194,7 +193,6 @@ fn all(line: &mut [u8], portion: &mut [u8], out: &mut [u8]) {
     let mut station = fresh();
     let mut floats = no_floats();
     let mut speeds = no_speeds();
-    let mut playing = play::begin();
     let mut r = start();
     let mut turns = u64::MAX;
     while turns > 0 {
@@ -224,11 +222,6 @@ fn all(line: &mut [u8], portion: &mut [u8], out: &mut [u8]) {
                 speeds = acted.speeds;
                 acted.n
             }
-            Part::Fed(c) => {
-                let acted = feeds::on(asked, h.at, c, out, playing);
-                playing = acted.playing;
-                acted.n
-            }
             Part::Seen => questions::call(asked, h.at, call, out, station),
             Part::Nothing => families::call(asked, h.at, call, out),
         };
@@ -239,6 +232,6 @@ fn all(line: &mut [u8], portion: &mut [u8], out: &mut [u8]) {
 fn main() {
     let mut line = [0u8; 1024];
     let mut portion = io::large_buffer();
-    let mut out = [0u8; 2048];
+    let mut out = [0u8; 512];
     all(&mut line, &mut portion, &mut out);
 }

@@ -50,8 +50,3 @@ WRONG_ID = 14
 
 abbrev pub NEVER_ISSUED : ℕ
 NEVER_ISSUED = 15
-
--- ---- of a recording again: 02, the recording that arrives over a serial cable
-
-abbrev pub «UNFINISHED» : ℕ
-«UNFINISHED» = 16

@@ -5,7 +5,6 @@ use Rattle.names.specs.declared.Call.{Call}
 use Rattle.names.specs.declared.Call.TheVariants as call
 use Rattle.names.specs.declared.CurveCall.TheVariants as curve
 use Rattle.names.specs.declared.DoubleCall.TheVariants as double
-use Rattle.names.specs.declared.FeedCall.TheVariants as feeding
 use Rattle.names.specs.declared.LimitCall.TheVariants as limit
 use Rattle.names.specs.declared.OneClock.TheVariants as oneClock
 use Rattle.names.specs.declared.OneModulator.TheVariants as oneModulator
@@ -112,26 +111,6 @@ abbrev pub «fpVal» : List ℕ
 -- "frame"
 abbrev pub «frame» : List ℕ
 «frame» = 0x66 ∷ 0x72 ∷ 0x61 ∷ 0x6d ∷ 0x65 ∷ []
-
--- "feed"
-abbrev pub «feed» : List ℕ
-«feed» = 0x66 ∷ 0x65 ∷ 0x65 ∷ 0x64 ∷ []
-
--- "feed.new"
-abbrev pub «feedNew» : List ℕ
-«feedNew» = 0x66 ∷ 0x65 ∷ 0x65 ∷ 0x64 ∷ 0x2e ∷ 0x6e ∷ 0x65 ∷ 0x77 ∷ []
-
--- "feed.end"
-abbrev pub «feedEnd» : List ℕ
-«feedEnd» = 0x66 ∷ 0x65 ∷ 0x65 ∷ 0x64 ∷ 0x2e ∷ 0x65 ∷ 0x6e ∷ 0x64 ∷ []
-
--- "feed.show"
-abbrev pub «feedShow» : List ℕ
-«feedShow» = 0x66 ∷ 0x65 ∷ 0x65 ∷ 0x64 ∷ 0x2e ∷ 0x73 ∷ 0x68 ∷ 0x6f ∷ 0x77 ∷ []
-
--- "feed.at"
-abbrev pub «feedAt» : List ℕ
-«feedAt» = 0x66 ∷ 0x65 ∷ 0x65 ∷ 0x64 ∷ 0x2e ∷ 0x61 ∷ 0x74 ∷ []
 
 -- "lerp"
 abbrev pub «lerp» : List ℕ
@@ -369,12 +348,7 @@ rows_f =
     names «fpSet» (call.FloatParameter parameter.Set) ∷
     names «fpUp» (call.FloatParameter parameter.Up) ∷
     names «fpVal» (call.FloatParameter parameter.Val) ∷
-    names «frame» call.Frame ∷
-    names «feed» (call.Feed feeding.Portion) ∷
-    names «feedNew» (call.Feed feeding.New) ∷
-    names «feedEnd» (call.Feed feeding.End) ∷
-    names «feedShow» (call.Feed feeding.Show) ∷
-    names «feedAt» (call.Feed feeding.At) ∷ []
+    names «frame» call.Frame ∷ []
 
 abbrev pub rows_l : List Row
 rows_l =

@@ -102,16 +102,6 @@ pub enum SpeedCall {
     Tpm,
 }
 
-// The calls on the replay that takes its recording in portions.
-#[derive(Drop)]
-pub enum FeedCall {
-    New,
-    Portion,
-    End,
-    Show,
-    At,
-}
-
 // Every call, in families that one function answers each; None where a word names no call.
 #[derive(Drop)]
 pub enum Call {
@@ -137,7 +127,6 @@ pub enum Call {
     Curve(CurveCall),
     SpeedLerp,
     Speed(SpeedCall),
-    Feed(FeedCall),
     None,
 }
 
@@ -207,12 +196,7 @@ fn rows_f(word: &[u8]) -> Call
     let c = row(word, b"fp.set", Call::FloatParameter(ParameterCall::Set), c);
     let c = row(word, b"fp.up", Call::FloatParameter(ParameterCall::Up), c);
     let c = row(word, b"fp.val", Call::FloatParameter(ParameterCall::Val), c);
-    let c = row(word, b"frame", Call::Frame, c);
-    let c = row(word, b"feed", Call::Feed(FeedCall::Portion), c);
-    let c = row(word, b"feed.new", Call::Feed(FeedCall::New), c);
-    let c = row(word, b"feed.end", Call::Feed(FeedCall::End), c);
-    let c = row(word, b"feed.show", Call::Feed(FeedCall::Show), c);
-    row(word, b"feed.at", Call::Feed(FeedCall::At), c)
+    row(word, b"frame", Call::Frame, c)
 }
 
 fn rows_l(word: &[u8]) -> Call

@@ -1,7 +1,7 @@
 -- A replay ends where its records' calls end when they are made one by one: all of them, or those before the first that
 -- is refused. And a recording that writes an accepted run of calls down is replayed to where that run ended. 02, the
 -- replay of a shift; RULES, one_by_one and recorder. Assumes nothing.
-use Prim.Native.Nat.{ℕ, ◌+◌, ◌≤◌}
+use Prim.Native.Nat.{ℕ, ◌+◌}
 use native.Mathlib.Omega.{arith}
 use mathlib.Core.Logic.{◌⊎◌, inl, inr}
 use mathlib.Core.Path.{◌≡◌, refl, sym, ap, ◌∙◌}
@@ -24,17 +24,15 @@ use Rattle.run.specs.declared.Call.{Call}
 use Rattle.record.specs.declared.Op.{Op}
 use Rattle.record.specs.declared.Op.TheVariants as op
 use Rattle.record.specs.declared.Record.{Record}
-use Rattle.recording.specs.Recordings.{start_at, is_over, Tape, next, ends, trace, records_of, is_whole, limit, tape_at}
-use Rattle.recording.specs.declared.Read.TheVariants as read
+use Rattle.recording.specs.Recordings.{Tape, next, over, unfinished, trace, records_of, is_whole, tape_at}
 use Rattle.recording.specs.Writings.{written_of, Writable, All}
 use Rattle.recording.proofs.Written.{read_back, whole_back}
 use Rattle.laws.proofs.Refusals.{refusal_numbered}
 use Rattle.play.specs.Asked.{double_of, id_of, speed_of, no_time, call_by, call_of, is_of, number_for, number_on, taken_on}
-use Rattle.play.specs.Replays.{read_as, Ended, on_answer, end_of, replayed, replay_of}
-use Rattle.play.specs.OneByOne.{awaited_by, Accepts, OtherId, Refuses, AllAccepted, EndsWith, Incomplete, Answers, EndsAlike, Noted}
+use Rattle.play.specs.Replays.{whole, at_record, Ended, on_answer, end_of, replayed, replay_of}
+use Rattle.play.specs.OneByOne.{awaited_by, Accepts, OtherId, Refuses, AllAccepted, EndsWith, Answers, EndsAlike, Noted}
 use Rattle.play.specs.declared.Place.TheVariants as place
 use Rattle.play.specs.declared.Replayed.{Replayed}
-use Rattle.play.specs.declared.Standing.TheVariants as standing
 use Rattle.play.specs.declared.Verdict.TheVariants as verdict
 
 false_is : false ≡ true → ⊥
@@ -112,29 +110,22 @@ accepted_zero st r e = ap (number_for r) e ∙ awaited_zero r r.op
 
 -- ---- every recording
 
--- what is answered where the bytes end
-at_end : (b : Bool) → read_as (cond b read.End read.Unfinished) ≡ cond b verdict.Accepted (verdict.Refused 16 place.End)
-at_end true = refl
-at_end false = refl
-
 -- what a record's number makes of a replay of t behind it
-abbrev on : Tape → ℕ → ℕ → Station → Record → ℕ → Ended Station
-on t behind k st r n =
-    on_answer taken_on (decided n (accepted (after st (call_of r))) refused)
-    (λ st'. end_of taken_on (k + 1) st' t)
-    (λ m. record { state = st; count = k; left = start_at behind; standing = standing.Told (verdict.Refused m (place.Record k)) })
+abbrev on : Tape → ℕ → Station → Record → ℕ → Ended Station
+on t k st r n =
+    on_answer taken_on (decided n (accepted (after st (call_of r))) refused) (λ st'. end_of taken_on (k + 1) st' t) (λ m. record { state = st; ending = at_record k m })
 
-abbrev Alike : Tape → Type 0
-Alike t = (k : ℕ) (st : Station) → EndsAlike k st t (replayed (end_of taken_on k st t))
+abbrev Alike : ℕ → Tape → Type 0
+Alike n t = (k : ℕ) (st : Station) → EndsAlike k st n t (replayed n (end_of taken_on k st t))
 
-module _ (t : Tape) (ih : Alike t) (r : Record) (behind k : ℕ) (st : Station) where
+module _ (n : ℕ) (t : Tape) (ih : Alike n t) (r : Record) (behind k : ℕ) (st : Station) where
   -- what is answered behind a record is answered from it on
-  from_it : (e : Replayed) (left : List Record) {i j : ℕ} → i ≡ j → Answers e.station i left t e.verdict → Answers e.station j left (next r behind t) e.verdict
+  from_it : (e : Replayed) (left : List Record) {i j : ℕ} → i ≡ j → Answers e.station i left n t e.verdict → Answers e.station j left n (next r behind t) e.verdict
   unfolding EndsWith
   from_it e [] p a = a
   from_it e (q ∷ qs) p a = rw (sym p) a
 
-  by : (b : Bool) → eqb (number_on st r) 0 ≡ b → EndsAlike k st (next r behind t) (replayed (on t behind k st r (number_on st r)))
+  by : (b : Bool) → eqb (number_on st r) 0 ≡ b → EndsAlike k st n (next r behind t) (replayed n (on t k st r (number_on st r)))
   unfolding records_of AllAccepted after_all
   by true e =
       let d = ih (k + 1) (after st (call_of r)) in
@@ -144,7 +135,7 @@ module _ (t : Tape) (ih : Alike t) (r : Record) (behind k : ℕ) (st : Station) 
         all = ap (λ (l : List Record). r ∷ l) d.all;
         accepted = (accepts st r (eqb-true (number_on st r) 0 e), d.accepted);
         state = d.state;
-        answer = from_it (replayed (end_of taken_on (k + 1) (after st (call_of r)) t)) d.left (omega arith) d.answer;
+        answer = from_it (replayed n (end_of taken_on (k + 1) (after st (call_of r)) t)) d.left (omega arith) d.answer;
       })
   by false e =
       let here : k ≡ k + 0 = omega arith in
@@ -161,64 +152,24 @@ module _ (t : Tape) (ih : Alike t) (r : Record) (behind k : ℕ) (st : Station) 
         };
       })
 
-alike : (t : Tape) → Alike t
+alike : (n : ℕ) (t : Tape) → Alike n t
 unfolding end_of taken_on records_of EndsWith AllAccepted after_all
-alike (next r behind t) k st = by t (alike t) r behind k st (eqb (number_on st r) 0) refl
-alike (ends o) k st = record { ran = []; left = []; all = refl; accepted = tt; state = refl; answer = at_end (is_over o) }
-alike (trace at) k st = record { ran = []; left = []; all = refl; accepted = tt; state = refl; answer = refl }
+alike n (next r behind t) k st = by n t (alike n t) r behind k st (eqb (number_on st r) 0) refl
+alike n over k st = record { ran = []; left = []; all = refl; accepted = tt; state = refl; answer = refl }
+alike n unfinished k st = record { ran = []; left = []; all = refl; accepted = tt; state = refl; answer = refl }
+alike n (trace at) k st = record { ran = []; left = []; all = refl; accepted = tt; state = refl; answer = refl }
 
-pub one_by_one : (s : List ℕ) → EndsAlike 0 fresh_station (tape_at s 0) (replay_of s)
+pub one_by_one : (s : List ℕ) → EndsAlike 0 fresh_station (length s) (tape_at s 0) (replay_of s)
 unfolding replay_of
-one_by_one s = alike (tape_at s 0) 0 fresh_station
-
--- ---- 16 exactly where a record is incomplete and nothing earlier was refused
-
-inside_run : (t : Tape) (k : ℕ) (st : Station) → Incomplete t → AllAccepted st (records_of t) → replayed (end_of taken_on k st t) ≡ record { station = after_all st (map call_of (records_of t)); verdict = verdict.Refused 16 place.End }
-unfolding end_of taken_on records_of Incomplete AllAccepted after_all
-inside_run (next r behind t) k st w a = rw (eq-eqb (number_on st r) 0 (accepted_zero st r a.0)) (inside_run t (k + 1) (after st (call_of r)) w a.1)
-inside_run (ends o) k st w a = rw w
-inside_run (trace at) k st w a = absurd w
-
-inside_only : (t : Tape) (k : ℕ) (st : Station) → (replayed (end_of taken_on k st t)).verdict ≡ verdict.Refused 16 place.End → Incomplete t × AllAccepted st (records_of t)
-unfolding end_of taken_on records_of Incomplete AllAccepted
-inside_only (next r behind t) k st e = by (eqb (number_on st r) 0) refl e (inside_only t (k + 1) (after st (call_of r)))
-  where
-    by :
-        (b : Bool) → eqb (number_on st r) 0 ≡ b → (replayed (on t behind k st r (number_on st r))).verdict ≡ verdict.Refused 16 place.End
-        → ((replayed (end_of taken_on (k + 1) (after st (call_of r)) t)).verdict ≡ verdict.Refused 16 place.End → Incomplete t × AllAccepted (after st (call_of r)) (records_of t))
-        → Incomplete t × (Accepts st r × AllAccepted (after st (call_of r)) (records_of t))
-    by true z e ih =
-        let d = ih (rw z at e) in
-        (d.0, (accepts st r (eqb-true (number_on st r) 0 z), d.1))
-    by false z e ih =
-        let w : verdict.Refused (number_on st r) (place.Record k) ≡ verdict.Refused 16 place.End = rw z at e in
-        let no : ◌≡◌ {A = ℕ} 0 1 = cc in
-        absurd (omega arith)
-inside_only (ends o) k st e = (by (is_over o) e, tt)
-  where
-    by : (b : Bool) → read_as (cond b read.End read.Unfinished) ≡ verdict.Refused 16 place.End → b ≡ false
-    by true e = cc
-    by false e = refl
-inside_only (trace at) k st e =
-    let no : ◌≡◌ {A = ℕ} 0 1 = cc in
-    absurd (omega arith)
-
-pub sixteen_where :
-    (s : List ℕ) → Incomplete (tape_at s 0) → AllAccepted fresh_station (records_of (tape_at s 0))
-    → replay_of s ≡ record { station = after_all fresh_station (map call_of (records_of (tape_at s 0))); verdict = verdict.Refused 16 place.End }
-unfolding replay_of
-sixteen_where s = inside_run (tape_at s 0) 0 fresh_station
-
-pub sixteen_only : (s : List ℕ) → (replay_of s).verdict ≡ verdict.Refused 16 place.End → Incomplete (tape_at s 0) × AllAccepted fresh_station (records_of (tape_at s 0))
-unfolding replay_of
-sixteen_only s = inside_only (tape_at s 0) 0 fresh_station
+one_by_one s = alike (length s) (tape_at s 0) 0 fresh_station
 
 -- ---- a recording of an accepted run
 
-whole_run : (t : Tape) (k : ℕ) (st : Station) → is_whole t ≡ true → AllAccepted st (records_of t) → replayed (end_of taken_on k st t) ≡ record { station = after_all st (map call_of (records_of t)); verdict = verdict.Accepted }
+whole_run : (t : Tape) (k : ℕ) (st : Station) → is_whole t ≡ true → AllAccepted st (records_of t) → end_of taken_on k st t ≡ record { state = after_all st (map call_of (records_of t)); ending = whole }
 unfolding end_of taken_on records_of is_whole AllAccepted after_all
 whole_run (next r behind t) k st w a = rw (eq-eqb (number_on st r) 0 (accepted_zero st r a.0)) (whole_run t (k + 1) (after st (call_of r)) w a.1)
-whole_run (ends o) k st w a = rw w
+whole_run over k st w a = refl
+whole_run unfinished k st w a = absurd (false_is w)
 whole_run (trace at) k st w a = absurd (false_is w)
 
 -- what is written down was accepted, call by call
@@ -231,15 +182,15 @@ noted_calls st (c ∷ cs) (r ∷ rs) n =
     let d = noted_calls (after st c) cs rs n.2 in
     rw n.0 ((n.1, d.0), ap (λ (l : List Call). c ∷ l) d.1)
 
-pub accepted_run : (rs : List Record) → All Writable rs → length (written_of rs) ≤ limit → AllAccepted fresh_station rs → replay_of (written_of rs) ≡ record { station = after_all fresh_station (map call_of rs); verdict = verdict.Accepted }
+pub accepted_run : (rs : List Record) → All Writable rs → AllAccepted fresh_station rs → replay_of (written_of rs) ≡ record { station = after_all fresh_station (map call_of rs); verdict = verdict.Accepted }
 unfolding replay_of
-accepted_run rs w m a =
+accepted_run rs w a =
     let t = tape_at (written_of rs) 0 in
-    let is : records_of t ≡ rs = read_back rs w m in
+    let is : records_of t ≡ rs = read_back rs w in
     let all : AllAccepted fresh_station (records_of t) = rw is a in
-    whole_run t 0 fresh_station (whole_back rs w m) all ∙ rw is
+    ap (replayed _) (whole_run t 0 fresh_station (whole_back rs w) all) ∙ rw is
 
-pub recorded_run : (cs : List Call) (rs : List Record) → All Writable rs → length (written_of rs) ≤ limit → Noted fresh_station cs rs → replay_of (written_of rs) ≡ record { station = after_all fresh_station cs; verdict = verdict.Accepted }
-recorded_run cs rs w m n =
+pub recorded_run : (cs : List Call) (rs : List Record) → All Writable rs → Noted fresh_station cs rs → replay_of (written_of rs) ≡ record { station = after_all fresh_station cs; verdict = verdict.Accepted }
+recorded_run cs rs w n =
     let d = noted_calls fresh_station cs rs n in
-    accepted_run rs w m d.0 ∙ rw d.1
+    accepted_run rs w d.0 ∙ rw d.1

@@ -1,14 +1,12 @@
 -- One turn of the loop over a recording's records: what the code's facts make of a record, and what is left to say
 -- behind it. Assumes nothing.
-use Prim.Native.Nat.{ℕ, ◌+◌, ◌-◌, ◌≤◌}
-use native.Mathlib.Omega.{arith}
+use Prim.Native.Nat.{ℕ, ◌+◌}
 use mathlib.Core.Path.{◌≡◌, refl, sym, ap, ◌∙◌}
-use mathlib.Core.Bool.{Bool, true, false, ◌&&◌}
+use mathlib.Core.Bool.{Bool, true, false}
 use mathlib.Core.List.{List}
-use borrow.Author.Tests.{eq-eqb, ne_eqb, eqb-true, leb-true}
-use lib.Dec.{eqb, leb}
+use borrow.Author.Tests.{eq-eqb, ne_eqb, eqb-true}
+use lib.Dec.{eqb}
 use lib.Ieee.{Float}
-use lib.ListN.{length, drop, length-drop}
 use Rattle.judge.specs.Answer.{Answer, accepted, refused}
 use Rattle.commands.specs.Answers.{byNumber}
 use Rattle.commands.specs.ClockCommands.{run_clock_of}
@@ -21,22 +19,12 @@ use Rattle.run.specs.Runs.{told, after}
 use Rattle.run.specs.declared.Call.{Call}
 use Rattle.run.specs.declared.Call.TheVariants as call
 use Rattle.record.specs.declared.Record.{Record}
-use Rattle.recording.specs.Recordings.{Open, start_at, tape_on}
-use Rattle.recording.specs.Portions.{open_of, held_of, taken_of}
-use Rattle.recording.specs.declared.Held.{Held}
+use Rattle.recording.specs.Recordings.{tape_at, record_at}
+use Rattle.recording.specs.declared.Read.{Read}
 use Rattle.recording.specs.declared.Read.TheVariants as read
-use Rattle.recording.specs.declared.Said.TheVariants as said
-use Rattle.recording.specs.declared.Taken.{Taken}
-use Rattle.record.proofs.field.Lines.{onward}
-use Rattle.recording.proofs.Lines.{left}
-use Rattle.recording.proofs.Portions.{Recorded, more, bad}
+use Rattle.recording.proofs.Places.{There, is_over, is_unfinished, is_bad}
 use Rattle.play.specs.Asked.{call_of, call_as, number_for, number_on, taken_on}
-use Rattle.play.specs.Replays.{Ended, read_as, end_of}
-use Rattle.play.specs.declared.Place.TheVariants as place
-use Rattle.play.specs.Feeds.{is_going}
-use Rattle.play.specs.declared.Standing.{Standing}
-use Rattle.play.specs.declared.Standing.TheVariants as standing
-use Rattle.play.specs.declared.Verdict.TheVariants as verdict
+use Rattle.play.specs.Replays.{whole, inside, at_line, at_record, end_of}
 use Rattle.play.specs.declared.Asked.{Asked}
 
 -- ---- a record's call c, once it was made, and the number n that was found for it
@@ -87,40 +75,27 @@ module _ (st : Station) (r : Record) {dt : Float} (is : call.Frame dt ≡ call_o
   pub frame_taken : framed.refused ≡ 0 → taken_on st r ≡ accepted framed.station
   frame_taken e = is_taken st r is number_framed e ∙ ap (λ (x : Framed). accepted x.station) (sym left)
 
--- ---- the loop stands before a portion s, with h held and record k to come; t is what `read_on` answered
+-- ---- the loop stands at a place, with record k to come
 
-module _
-    {S : Type 0} (take : S → Record → Answer S) (h : Held) (s : List ℕ) (t : Taken) (told : t ≡ taken_of h s)
-    (k : ℕ) (st : S) where
-  abbrev ends_as : Ended S
-  ends_as = end_of take k st (tape_on (open_of h) s)
-
-  pub refuses :
-      {r : Record} {used n : ℕ} → Recorded h s t told r used → take st r ≡ refused n
-      → record { state = st; count = k; left = start_at t.held.at; standing = standing.Told (verdict.Refused n (place.Record k)) } ≡ ends_as
+module _ {S : Type 0} (take : S → Record → Answer S) (s : List ℕ) (at k : ℕ) (st : S) where
+  pub refuses : {r : Record} {j n : ℕ} → There s at r j → take st r ≡ refused n → record { state = st; ending = at_record k n } ≡ end_of take k st (tape_at s at)
   unfolding end_of
   refuses d e = rw (d.is, e)
 
-  pub accepts : {r : Record} {used : ℕ} {st' : S} → Recorded h s t told r used → take st r ≡ accepted st' → end_of take (k + 1) st' (tape_on (open_of t.held) (drop used s)) ≡ ends_as
+  pub accepts : {r : Record} {j : ℕ} {st' : S} → There s at r j → take st r ≡ accepted st' → end_of take (k + 1) st' (tape_at s j) ≡ end_of take k st (tape_at s at)
   unfolding end_of
   accepts d e = rw (d.is, e)
 
-  pub stays : t.said ≡ said.More → (o : Open) × (t.held ≡ held_of o) × (record { state = st; count = k; left = o; standing = standing.Going } ≡ ends_as)
-  unfolding end_of
-  stays e =
-      let d = more h s t told e in
-      (d.0, d.2, rw d.1)
+  -- a is what `record_at` answered
+  module _ (a : Read) (found : a ≡ record_at s at) where
+    pub ends : a ≡ read.End → record { state = st; ending = whole } ≡ end_of take k st (tape_at s at)
+    unfolding end_of
+    ends e = rw (is_over (tape_at s at) (sym found ∙ e))
 
-  pub stops : t.said ≡ said.Bad → record { state = st; count = k; left = start_at t.held.at; standing = standing.Told (read_as (read.Bad t.held.at)) } ≡ ends_as
-  unfolding end_of
-  stops e = rw (bad h s t told e).0
+    pub ends_inside : a ≡ read.Unfinished → record { state = st; ending = inside } ≡ end_of take k st (tape_at s at)
+    unfolding end_of
+    ends_inside e = rw (is_unfinished (tape_at s at) (sym found ∙ e))
 
--- ---- the numbers that the loop has at hand
-
--- a portion that is read finds no more records than bytes
-pub fewer : (v : Standing) (k at : ℕ) → (is_going v && leb k at) ≡ true → k ≤ at
-fewer standing.Going k at e = leb-true k at e
-fewer (standing.Told v) k at e = let z : ◌≡◌ {A = ℕ} 0 1 = cc in absurd (omega arith)
-
-pub length_left : (s : List ℕ) (i : ℕ) → length (left s i) ≡ length s - i
-length_left s i = ap length (onward s i) ∙ length-drop i s
+    pub ends_at : {j : ℕ} → a ≡ read.Bad j → record { state = st; ending = at_line j } ≡ end_of take k st (tape_at s at)
+    unfolding end_of
+    ends_at {j} e = rw (is_bad (tape_at s at) j (sym found ∙ e))

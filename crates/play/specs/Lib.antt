@@ -1,4 +1,3 @@
 pub mod Asked
 pub mod Replays
-pub mod Feeds
 pub mod OneByOne

@@ -1,6 +1,6 @@
 -- 02, the replay of a shift: what the same calls do when they are made one by one, and what it is to write a run of
 -- calls down: RULES, one-by-one and recorder. Assumes nothing.
-use Rattle.std.specs.Prelude.{ℕ, ◌+◌, ◌≡◌, ◌⊎◌, false, cond, List, [], ◌∷◌, ◌++◌, map, length}
+use Rattle.std.specs.Prelude.{ℕ, ◌+◌, ◌≡◌, ◌⊎◌, List, [], ◌∷◌, ◌++◌, map, length}
 use Rattle.judge.specs.Answer.{Answer, accepted, refused}
 use Rattle.commands.specs.Answers.{ofClock, Given, done, named}
 use Rattle.station.specs.declared.Station.{Station}
@@ -9,7 +9,7 @@ use Rattle.run.specs.declared.Call.{Call}
 use Rattle.record.specs.declared.Op.{Op}
 use Rattle.record.specs.declared.Op.TheVariants as op
 use Rattle.record.specs.declared.Record.{Record}
-use Rattle.recording.specs.Recordings.{Tape, next, ends, trace, is_over, records_of}
+use Rattle.recording.specs.Recordings.{Tape, next, over, unfinished, trace, records_of}
 use Rattle.play.specs.Asked.{call_of}
 use Rattle.play.specs.declared.Place.TheVariants as place
 use Rattle.play.specs.declared.Replayed.{Replayed}
@@ -50,17 +50,12 @@ unfoldable pub AllAccepted : Station → List Record → Type 0
 AllAccepted st [] = Unit {0}
 AllAccepted st (r ∷ rs) = Accepts st r × AllAccepted (after st (call_of r)) rs
 
--- what is answered behind the last record: 13 with the place of a bad line, or 16 where a record is incomplete
-unfoldable pub EndsWith : Tape → Verdict → Type 0
-EndsWith (next r behind t) v = EndsWith t v
-EndsWith (ends o) v = v ≡ cond (is_over o) verdict.Accepted (verdict.Refused 16 place.End)
-EndsWith (trace at) v = v ≡ verdict.Refused 13 (place.Byte at)
-
--- a recording ends inside a record, with no bad line before
-unfoldable pub Incomplete : Tape → Type 0
-Incomplete (next r behind t) = Incomplete t
-Incomplete (ends o) = is_over o ≡ false
-Incomplete (trace at) = ⊥
+-- what is answered behind the last record of a recording of so many bytes: 13 with its place, unless the recording ends
+unfoldable pub EndsWith : ℕ → Tape → Verdict → Type 0
+EndsWith n (next r behind t) v = EndsWith n t v
+EndsWith n over v = v ≡ verdict.Accepted
+EndsWith n unfinished v = v ≡ verdict.Refused 13 (place.Byte n)
+EndsWith n (trace at) v = v ≡ verdict.Refused 13 (place.Byte at)
 
 -- what is answered where record k is refused on a station
 pub record StopsAt (st : Station) (k : ℕ) (r : Record) (v : Verdict) : Type 0 where
@@ -69,19 +64,19 @@ pub record StopsAt (st : Station) (k : ℕ) (r : Record) (v : Verdict) : Type 0 
   pub is : v ≡ verdict.Refused number (place.Record k)
 
 -- a replay stops behind its last record, or at record k, the first of those that are left
-abbrev pub Answers : Station → ℕ → List Record → Tape → Verdict → Type 0
-Answers st k [] t v = EndsWith t v
-Answers st k (r ∷ rs) t v = StopsAt st k r v
+abbrev pub Answers : Station → ℕ → List Record → ℕ → Tape → Verdict → Type 0
+Answers st k [] n t v = EndsWith n t v
+Answers st k (r ∷ rs) n t v = StopsAt st k r v
 
 -- the records that were run, and those that were left; the calls of the first, one by one, are all accepted, and end
 -- where the replay ended
-pub record EndsAlike (k : ℕ) (st : Station) (t : Tape) (e : Replayed) : Type 0 where
+pub record EndsAlike (k : ℕ) (st : Station) (n : ℕ) (t : Tape) (e : Replayed) : Type 0 where
   pub ran : List Record
   pub left : List Record
   pub all : records_of t ≡ ran ++ left
   pub accepted : AllAccepted st ran
   pub state : e.station ≡ after_all st (map call_of ran)
-  pub answer : Answers e.station (k + length ran) left t e.verdict
+  pub answer : Answers e.station (k + length ran) left n t e.verdict
 
 -- ---- a recorder
 

@@ -4,32 +4,28 @@ use native.Mathlib.Omega.{arith}
 use native.Mathlib.Numerals.{add-one}
 use mathlib.Core.Path.{◌≡◌, refl}
 use mathlib.Core.Bool.{Bool, true, false}
-use mathlib.Core.List.{List, [], ◌∷◌, ◌++◌, append-nil, append_assoc}
+use mathlib.Core.List.{List, [], ◌∷◌, ◌++◌}
 use borrow.Author.Tests.{lt-ltb, le-ltb, le-leb, lt-leb, eq-eqb, ne_eqb}
 use lib.Dec.{eqb}
 use lib.ListN.{length, take, drop, get_or, length-append, drop_of_length-le}
 use lib.Seq.{length-take-le, take_all, take-suc, drop-cons, drop-drop}
-use Rattle.record.specs.Records.{judge_of}
+use Rattle.record.specs.Records.{is_first, judge_of}
 use Rattle.record.proofs.field.Lines.{onward}
 use Rattle.record.specs.declared.Part.{Part}
 use Rattle.record.specs.declared.Part.TheVariants as part
 use Rattle.record.specs.declared.Judged.{Judged}
-use Rattle.recording.specs.Recordings.{lines_from, Tape, next, ends, trace, by_judged, tape_of}
+use Rattle.recording.specs.Recordings.{lines_from, Tape, next, unfinished, trace, lastly, by_judged, tape_of}
 use Rattle.recording.specs.Lengths.{InLine, LineLength}
 
 -- ---- counting
 
 module _ (most : ℕ) (bs : List ℕ) where
   pub none : InLine most bs 0
-  none = record { small = omega arith; inside = omega arith; begun = λ l. rw (append-nil l) }
+  none = record { small = omega arith; inside = omega arith; begun = refl }
 
   pub one_more : (n : ℕ) → InLine most bs n → n < most → n < length bs → (get_or bs n 0 ≡ 10 → ⊥) → InLine most bs (n + 1)
   unfolding lines_from
-  one_more n h l m e = record {
-    small = omega arith;
-    inside = omega arith;
-    begun = λ d. rw (add-one, take-suc bs n 0 m, ← append_assoc d (take n bs) (get_or bs n 0 ∷ [])) (rw (drop-cons bs n 0 m, ne_eqb (get_or bs n 0) 10 e) at (h.begun d));
-  }
+  one_more n h l m e = record { small = omega arith; inside = omega arith; begun = rw (add-one, take-suc bs n 0 m) (rw (drop-cons bs n 0 m, ne_eqb (get_or bs n 0) 10 e) at h.begun) }
 
 -- ---- what is left of bytes at a place, as the code takes it
 
@@ -53,43 +49,42 @@ module _ (p : Part) (room at : ℕ) where
       by true e = rw (e, le-ltb (length l) room h)
       by false e = rw e (ih (l ++ b ∷ []) (omega (arith, length-append l (b ∷ []))))
 
-  pub too_long : (bs l : List ℕ) → room < length l → IsBad bs l
+  too_long : (bs l : List ℕ) → room < length l → IsBad bs l
   unfolding tape_of lines_from
   too_long [] l h = rw (lt-leb (length l) room h)
   too_long (b ∷ bs) l h = one_byte b bs l (omega arith) (too_long bs)
 
--- ---- the first line of bytes, which began with l, and of which n bytes more were counted
+-- ---- the first line of bytes, of which n bytes were counted
 
-module _
-    (p : Part) (room at : ℕ) (l bs : List ℕ) (n k : ℕ) {most : ℕ} (h : LineLength most bs n)
-    (fits : length l + most ≡ room) (all : k ≡ length l + n) where
+module _ (p : Part) (room at : ℕ) (bs : List ℕ) (n : ℕ) (h : LineLength room bs n) where
   abbrev says : Tape
-  says = tape_of p room at (lines_from l bs)
+  says = tape_of p room at (lines_from [] bs)
 
-  size : length (l ++ take n bs) ≡ k
-  size = omega (arith, length-append l (take n bs), length-take-le n bs h.in_line.inside)
+  size : length (take n bs) ≡ n
+  size = length-take-le n bs h.in_line.inside
 
-  -- the bytes end inside it
-  pub ends_inside : length bs ≤ n → says ≡ ends (record { part = p; room = room; at = at; line = l ++ bs })
+  -- the bytes end inside a record
+  pub ends_inside : length bs ≤ n → (length bs ≡ 0 → is_first p ≡ false) → says ≡ unfinished
   unfolding tape_of lines_from
-  ends_inside m =
-      let small = h.in_line.small in
-      rw (← h.in_line.begun l, drop_of_length-le bs m, size, le-leb k room (omega arith), take_all n bs m)
+  ends_inside l f = rw (← h.in_line.begun, drop_of_length-le bs l, size, le-leb n room h.in_line.small, take_all n bs l) (by bs f)
+    where
+      by : (l : List ℕ) → (length l ≡ 0 → is_first p ≡ false) → lastly p l ≡ unfinished
+      by [] g = rw (g refl)
+      by (b ∷ l) g = refl
 
   -- a byte more is there than the record has room for
-  pub no_room_lem : room ≤ k → n < length bs → says ≡ trace at
-  no_room_lem m i =
-      rw (← h.in_line.begun l, drop-cons bs n 0 i)
-      (one_byte p room at (get_or bs n 0) (drop (suc n) bs) (l ++ take n bs) (omega (arith, size)) (too_long p room at (drop (suc n) bs)))
+  pub no_room_lem : room ≤ n → n < length bs → says ≡ trace at
+  no_room_lem l m =
+      rw (← h.in_line.begun, drop-cons bs n 0 m)
+      (one_byte p room at (get_or bs n 0) (drop (suc n) bs) (take n bs) (omega (arith, size)) (too_long p room at (drop (suc n) bs)))
 
   -- the line is whole, and v is what it was judged
   pub judges :
-      k < room → n < length bs → (v : Judged) → v ≡ judge_of p (l ++ take n bs)
+      n < room → n < length bs → (v : Judged) → v ≡ judge_of p (take n bs)
       → says
       ≡ by_judged v
-      (λ q. tape_of q (room - (k + 1)) (at + (k + 1)) (lines_from [] (drop (n + 1) bs)))
-      (λ r. next r (at + (k + 1)) (tape_of part.Op 64 (at + (k + 1)) (lines_from [] (drop (n + 1) bs))))
+      (λ q. tape_of q (room - (n + 1)) (at + (n + 1)) (lines_from [] (drop (n + 1) bs)))
+      (λ r. next r (at + (n + 1)) (tape_of part.Op 64 (at + (n + 1)) (lines_from [] (drop (n + 1) bs))))
       (trace at)
   unfolding tape_of lines_from
-  judges m i v told =
-      rw (told, ← h.in_line.begun l, drop-cons bs n 0 i, eq-eqb _ 10 (h.ended (omega arith) i), size, lt-ltb k room m, add-one n)
+  judges l m v told = rw (told, ← h.in_line.begun, drop-cons bs n 0 m, eq-eqb _ 10 (h.ended l m), size, lt-ltb n room l, add-one n)

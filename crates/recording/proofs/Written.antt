@@ -1,6 +1,6 @@
 -- What is written down is read back: of the bytes of writable records a recording has those records, and ends behind
 -- the last of them. Assumes nothing.
-use Prim.Native.Nat.{ℕ, zero, suc, ◌+◌, ◌-◌, ◌*◌, ◌/◌, ◌%◌, ◌^◌, ◌<◌, ◌≤◌}
+use Prim.Native.Nat.{ℕ, zero, suc, ◌+◌, ◌-◌, ◌/◌, ◌%◌, ◌^◌, ◌<◌, ◌≤◌}
 use native.Mathlib.Decide.{dec_lt}
 use native.Mathlib.Omega.{arith}
 use mathlib.Core.Path.{◌≡◌, refl, sym, ap, ◌∙◌}
@@ -23,7 +23,7 @@ use Rattle.record.specs.declared.Part.{Part}
 use Rattle.record.specs.declared.Part.TheVariants as part
 use Rattle.record.specs.declared.Judged.TheVariants as judged
 use Rattle.record.proofs.field.Lines.{same_told}
-use Rattle.recording.specs.Recordings.{line, lines_from, next, trace, by_judged, tape_of, limit, tape_on, tape_at, records_of, is_whole}
+use Rattle.recording.specs.Recordings.{line, lines_from, next, trace, by_judged, tape_of, tape_at, records_of, is_whole}
 use Rattle.recording.specs.Writings.{op_text, ended, text_of, written_of, Writable, All}
 
 -- ---- a line has no LF inside it: the bytes of its names and digits are all above the space
@@ -172,11 +172,6 @@ record_back r w at bs =
     (rw (decimal_behind_back «gen=» (limits_of r.op).generation r.generation w.generation (omega arith)))
     (rw (hex_behind_back «arg=» (limits_of r.op).arg r.arg w.arg (omega arith)))
 
-pub written_length : (rs : List Record) → All Writable rs → length (written_of rs) ≤ 53 * length rs
-unfolding written_of
-written_length [] h = omega arith
-written_length (r ∷ rs) h = omega (arith, length-append (text_of r) (written_of rs), text_length r h.0, written_length rs h.1)
-
 -- ---- records, from a place on, and from the start
 
 back :
@@ -188,13 +183,8 @@ back (r ∷ rs) h at =
     let on = back rs h.1 (at + length (text_of r)) in
     rw (record_back r h.0 at (written_of rs)) (ap (λ (t : List Record). r ∷ t) on.0, on.1)
 
--- at most 2^63 bytes are read
-at_start_lem : (rs : List Record) → length (written_of rs) ≤ limit → tape_at (written_of rs) 0 ≡ tape_of part.Op 64 0 (lines_from [] (written_of rs))
-unfolding tape_on
-at_start_lem rs m = rw (le-leb (length (written_of rs)) (limit - (0 + 0)) (omega arith))
+pub read_back : (rs : List Record) → All Writable rs → records_of (tape_at (written_of rs) 0) ≡ rs
+read_back rs h = (back rs h 0).0
 
-pub read_back : (rs : List Record) → All Writable rs → length (written_of rs) ≤ limit → records_of (tape_at (written_of rs) 0) ≡ rs
-read_back rs h m = ap records_of (at_start_lem rs m) ∙ (back rs h 0).0
-
-pub whole_back : (rs : List Record) → All Writable rs → length (written_of rs) ≤ limit → is_whole (tape_at (written_of rs) 0) ≡ true
-whole_back rs h m = ap is_whole (at_start_lem rs m) ∙ (back rs h 0).1
+pub whole_back : (rs : List Record) → All Writable rs → is_whole (tape_at (written_of rs) 0) ≡ true
+whole_back rs h = (back rs h 0).1

@@ -1,4 +1,3 @@
 pub mod Recordings
-pub mod Portions
 pub mod Lengths
 pub mod Writings

@@ -1,28 +1,26 @@
 //! The customer's worked rows and the line rules, through the whole of the bench.
 
-mod feed;
 mod ids;
 
-use super::Bench;
+use super::{answer, station::Station};
 
 fn answers(lines: &str) -> Vec<String> {
-    let mut bench = Bench::new();
+    let mut station = Station::new();
     let answered = lines
         .lines()
-        .filter_map(|line| bench.answer(line.trim_start().as_bytes()));
+        .filter_map(|line| answer(line.trim_start().as_bytes(), &mut station));
     answered.collect()
 }
 
 fn one(line: &str) -> String {
-    let answer = Bench::new().answer(line.as_bytes());
-    answer.expect("the line is a call")
+    answer(line.as_bytes(), &mut Station::new()).expect("the line is a call")
 }
 
 #[test]
 fn lines_that_are_no_call_are_skipped_or_errors() {
-    let mut bench = Bench::new();
+    let mut station = Station::new();
     for skipped in ["", "   ", "#", "# f.abs", &" ".repeat(1024)] {
-        assert_eq!(bench.answer(skipped.as_bytes()), None);
+        assert_eq!(answer(skipped.as_bytes(), &mut station), None);
     }
     let long_comment = format!("#{}", " ".repeat(1024));
     let wrong = [

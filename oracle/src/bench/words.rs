@@ -70,19 +70,6 @@ impl<'a> Words<'a> {
         self.number().filter(|number| *number <= most)
     }
 
-    /// Bytes as pairs of digits, or one dash for none.
-    pub(super) fn hex_bytes(&mut self) -> Option<Vec<u8>> {
-        let word = self.bytes()?;
-        if word == b"-" {
-            return Some(Vec::new());
-        }
-        let byte = |pair: &[u8]| match pair {
-            [high, low] => Some((hex_digit(*high)? << 4 | hex_digit(*low)?) as u8),
-            _ => None,
-        };
-        word.chunks(2).map(byte).collect()
-    }
-
     fn key(&mut self) -> Option<Key> {
         let (slot, generation) = self.word()?.split_once(':')?;
         let slot = u32::try_from(decimal(slot)?).ok()?;
@@ -255,15 +242,6 @@ mod tests {
         assert_eq!(words("18446744073709551615").number(), Some(u64::MAX));
         for wrong in ["00", "01", "+1", "-1", "18446744073709551616", "1a", "1.0"] {
             assert_eq!(words(wrong).number(), None);
-        }
-    }
-
-    #[test]
-    fn bytes_are_pairs_of_lower_case_digits() {
-        assert_eq!(words("000a7fff").hex_bytes(), Some(vec![0, 10, 127, 255]));
-        assert_eq!(words(" - ").hex_bytes(), Some(Vec::new()));
-        for wrong in ["", "0", "000", "0A", "0g", "0x00", "--", "-00", "00-", "+0"] {
-            assert_eq!(words(wrong).hex_bytes(), None, "{wrong}");
         }
     }
 

@@ -3,7 +3,6 @@
 
 mod damage;
 mod doubles;
-mod feed;
 mod floats;
 mod grammar;
 mod ids;
@@ -18,13 +17,6 @@ mod station;
 mod table;
 mod times;
 
-#[path = "../recordings/runs.rs"]
-mod runs;
-#[path = "../recordings/damage.rs"]
-mod spoilt;
-#[path = "../recordings/text.rs"]
-mod text;
-
 use std::{
     env,
     io::{self, BufWriter, ErrorKind, Write},
@@ -34,9 +26,8 @@ use std::{
 use random::Random;
 
 const USAGE: &str = "usage: generate FAMILY SEED COUNT [--powers MOST] [--random]
-       generate cuttings SEED
-FAMILY is floats, times, less, nanos, powers, station, shift, ids or feed. Powers that are accepted go to MOST, 1 to
-16, or to 16.
+FAMILY is floats, times, less, nanos, powers, station, shift or ids. Powers that are accepted go to MOST, 1 to 16,
+or to 16.
 COUNT is of all lines, or with --random of those behind the damaged lines and the limits.";
 
 /// One in this many lines is damaged, about 3 in 100.
@@ -50,12 +41,16 @@ struct Family {
 }
 
 fn main() -> ExitCode {
-    let words: Vec<String> = env::args().skip(1).collect();
-    let Some(printed) = printed(words) else {
+    let mut words: Vec<String> = env::args().skip(1).collect();
+    let random = words.last().is_some_and(|word| word == "--random");
+    if random {
+        words.pop();
+    }
+    let Some((family, seed, count)) = read_arguments(&words) else {
         eprintln!("{USAGE}");
         return ExitCode::from(2);
     };
-    match printed {
+    match print(family, seed, count, random) {
         Ok(()) => ExitCode::SUCCESS,
         // The reader has enough.
         Err(error) if error.kind() == ErrorKind::BrokenPipe => ExitCode::SUCCESS,
@@ -64,20 +59,6 @@ fn main() -> ExitCode {
             ExitCode::FAILURE
         }
     }
-}
-
-/// Prints what is asked for, or nothing where the words ask for nothing.
-fn printed(mut words: Vec<String>) -> Option<io::Result<()>> {
-    if let [what, seed] = &words[..] {
-        let seed = seed.parse().ok()?;
-        return (what == "cuttings").then(|| feed::print_cuttings(seed, io::stdout().lock()));
-    }
-    let random = words.last().is_some_and(|word| word == "--random");
-    if random {
-        words.pop();
-    }
-    let (family, seed, count) = read_arguments(&words)?;
-    Some(print(family, seed, count, random))
 }
 
 fn read_arguments(words: &[String]) -> Option<(Family, u64, u64)> {
@@ -100,7 +81,6 @@ fn read_arguments(words: &[String]) -> Option<(Family, u64, u64)> {
         "station" => station::family(powers),
         "shift" => shift::family(powers),
         "ids" => ids::family(powers),
-        "feed" => feed::family(),
         _ => return None,
     };
     Some((family, seed.parse().ok()?, count.parse().ok()?))
@@ -112,11 +92,7 @@ fn print(family: Family, seed: u64, count: u64, beside: bool) -> io::Result<()> 
     let undamaged = family.limits.iter().map(|line| line.clone().into_bytes());
     let damaged = damage::every_kind(&family.limits, &mut random);
     let first: Vec<Vec<u8>> = damaged.into_iter().chain(undamaged).collect();
-    let count = if beside {
-        count + first.len() as u64
-    } else {
-        count
-    };
+    let count = if beside { count + first.len() as u64 } else { count };
     let mut first = first.into_iter();
     for _ in 0..count {
         let line = first

@@ -30,9 +30,8 @@ impl Record<'_> {
     }
 }
 
-/// The record that starts here and where it ends, nothing where the recording ends before that, or the offset of a bad
-/// line.
-pub(super) fn record(recording: &[u8], start: usize) -> Result<Option<(Record<'_>, usize)>, usize> {
+/// The record that starts here and where it ends, or the offset at which the recording is bad.
+pub(super) fn record(recording: &[u8], start: usize) -> Result<(Record<'_>, usize), usize> {
     let mut said = Vec::new();
     let mut line = start;
     for at in start..recording.len() {
@@ -52,10 +51,10 @@ pub(super) fn record(recording: &[u8], start: usize) -> Result<Option<(Record<'_
                 generation,
                 arg,
             };
-            return Ok(Some((record, line)));
+            return Ok((record, line));
         }
     }
-    Ok(None)
+    Err(recording.len())
 }
 
 /// A line's value, after those that its record has said. None where the line is bad.

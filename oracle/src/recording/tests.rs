@@ -1,6 +1,6 @@
 //! Rows made by hand from the customer's words.
 
-use super::{MOST, Refusal, read, replay};
+use super::{Refusal, replay};
 
 const ADD: &str = "op=add\nslot=0\ngen=1\narg=4014000000000000\n";
 const START: &str = "op=start\nslot=0\ngen=1\narg=0000000000000000\n";
@@ -9,15 +9,7 @@ const FRAME: &str = "op=frame\nslot=0\ngen=0\narg=3fe0000000000000\n";
 fn trace(recording: &str, offset: usize) {
     assert_eq!(
         replay(recording.as_bytes()),
-        Err(Refusal::Trace(offset as u64)),
-        "{recording:?}"
-    );
-}
-
-fn unfinished(recording: &str) {
-    assert_eq!(
-        replay(recording.as_bytes()),
-        Err(Refusal::Unfinished),
+        Err(Refusal::Trace(offset)),
         "{recording:?}"
     );
 }
@@ -178,26 +170,26 @@ fn the_65th_byte_of_a_record_makes_its_line_bad() {
     }
     // The line has no LF: 64 bytes are an end inside the record, and the next byte makes it bad.
     for length in [1, 21, 63, 64] {
-        unfinished(&"x".repeat(length));
-        unfinished(&[ADD, &"x".repeat(length)].concat());
+        trace(&"x".repeat(length), length);
+        trace(&[ADD, &"x".repeat(length)].concat(), ADD.len() + length);
     }
     trace(&"x".repeat(65), 0);
     trace(&"x".repeat(66), 0);
     let open = stretched(65);
-    unfinished(open.trim_end());
+    trace(open.trim_end(), 64);
     trace(&stretched(66).trim_end(), line);
     trace(&[ADD, &"x".repeat(65)].concat(), ADD.len());
 }
 
 #[test]
-fn an_end_inside_a_record_is_unfinished() {
+fn an_end_inside_a_record_is_refused_at_the_length() {
     let run = [ADD, START, FRAME].concat();
     let ends = [0, ADD.len(), ADD.len() + START.len(), run.len()];
     for length in 0..run.len() {
         if ends.contains(&length) {
             assert!(replay(&run.as_bytes()[..length]).is_ok());
         } else {
-            unfinished(&run[..length]);
+            trace(&run[..length], length);
         }
     }
 }
@@ -297,81 +289,20 @@ fn one_record_is_judged_in_order_and_the_first_refusal_is_the_answer() {
 }
 
 #[test]
-fn a_recording_may_be_long() {
-    let run = [ADD, START].concat() + &FRAME.repeat(5000);
-    let end = report(
-        0,
-        1,
-        "ticking=1\nstarted=1\nticks=12500\nfraction=0000000000000000",
-    );
-    assert_eq!(replay(run.as_bytes()), Ok(end));
-    unfinished(&run[..run.len() - 1]);
-    trace(&(run.clone() + "x\n"), run.len());
-    refused(&(run + ADD), 14, 5002);
-}
-
-/// What bytes are refused for so far and, where that is nothing, at the end; the first of them stands `room` bytes
-/// before the most.
-fn near_the_most(room: u64, bytes: &str) -> (Option<Refusal>, Option<Refusal>) {
-    let reading = read(MOST - room, bytes.as_bytes());
-    (reading.refusal, reading.at_end())
-}
-
-#[test]
-fn the_first_byte_behind_the_most_is_refused_there() {
-    let over = (Some(Refusal::Trace(MOST)), Some(Refusal::Trace(MOST)));
-    let length = ADD.len() as u64;
-    assert_eq!(near_the_most(length, ADD), (None, None));
-    assert_eq!(near_the_most(0, ""), (None, None));
-    for behind in ["o", "\n", "x\n", START, &"x".repeat(100)] {
-        assert_eq!(near_the_most(0, behind), over);
-        assert_eq!(near_the_most(length, &[ADD, behind].concat()), over);
-    }
-    // The limit lies inside the record, at each of its bytes.
-    for room in 0..length {
-        assert_eq!(near_the_most(room, ADD), over);
-        let open = (None, (room > 0).then_some(Refusal::Unfinished));
-        assert_eq!(near_the_most(room, &ADD[..room as usize]), open);
-    }
-    // A record's 65th byte is the one too many, or comes before it.
-    assert_eq!(near_the_most(64, &"x".repeat(65)), over);
-    let bad = Some(Refusal::Trace(MOST - 65));
-    assert_eq!(near_the_most(65, &"x".repeat(66)), (bad, bad));
-}
-
-#[test]
-fn what_comes_before_the_byte_too_many_is_refused_first() {
-    let bad = Some(Refusal::Trace(MOST - 2));
-    assert_eq!(near_the_most(2, "x\nop=add"), (bad, bad));
-    let wrong = record("add", 1, 1, 1.0);
-    let call = Some(Refusal::Call(14, 0));
-    let length = wrong.len() as u64;
-    assert_eq!(near_the_most(length, &(wrong + "x")), (call, call));
-    let reading = read(MOST - ADD.len() as u64, [ADD, "x"].concat().as_bytes());
-    assert!(reading.reports.starts_with("slot=0\ngen=1\n"));
-}
-
-/// The state of a refusal is the one before its record.
-#[test]
-fn reports_stop_before_what_is_refused() {
-    let one = replay(ADD.as_bytes()).expect("it is whole");
-    let behind = [
-        record("add", 9, 9, 1.0),
-        record("stop", 0, 2, 0.0),
-        record("frame", 0, 0, -1.0),
-        "x\n".to_string(),
-        START[..START.len() - 1].to_string(),
-    ];
-    for text in behind {
-        assert_eq!(read(0, [ADD, &text].concat().as_bytes()).reports, one);
-    }
+fn a_recording_has_65536_bytes_at_most() {
+    let junk = "x".repeat(65_537);
+    trace(&junk[..65_536], 0);
+    assert_eq!(replay(junk.as_bytes()), Err(Refusal::TooLong));
+    let frames = FRAME.repeat(65_537 / FRAME.len() + 1);
+    trace(&frames[..65_536], 65_536);
+    assert_eq!(replay(&frames.as_bytes()[..65_537]), Err(Refusal::TooLong));
 }
 
 #[test]
 fn a_refusal_says_its_number_and_its_place() {
     let rows = [
+        (Refusal::TooLong, 11, ""),
         (Refusal::Trace(64), 13, "refused 13 at byte 64\n"),
-        (Refusal::Unfinished, 16, "refused 16\n"),
         (Refusal::Call(9, 2), 9, "refused 9 in record 2\n"),
         (Refusal::Call(14, 0), 14, "refused 14 in record 0\n"),
         (Refusal::Call(15, 7), 15, "refused 15 in record 7\n"),

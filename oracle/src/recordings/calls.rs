@@ -2,8 +2,8 @@
 
 use crate::{
     doubles::{above, below},
-    lengths::ONCE_MOST,
-    text::record,
+    made::record,
+    recording::MOST,
 };
 
 const LARGEST: u64 = 4_294_967_295;
@@ -185,8 +185,8 @@ fn orders() -> Vec<Vec<u8>> {
             for second in &refused {
                 made.push([&station[..], first, second].concat());
             }
-            // However long the recording goes on behind it.
-            for length in [ONCE_MOST, ONCE_MOST + 1] {
+            // However early it comes, the length is judged before it.
+            for length in [MOST, MOST + 1] {
                 let mut long = [&station[..], first].concat();
                 long.resize(length, b'\n');
                 made.push(long);

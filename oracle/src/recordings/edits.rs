@@ -1,6 +1,6 @@
 //! Short recordings with each of their bytes changed, deleted or doubled, and cut at each of them.
 
-use crate::text::record;
+use crate::made::record;
 
 /// What a byte becomes, beside its two neighbours.
 const OTHERS: [u8; 8] = *b"\n0= \r\x00\xffx";

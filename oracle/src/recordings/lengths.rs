@@ -1,9 +1,6 @@
-//! Recordings whose lengths matter: records of about 64 bytes, and recordings that a program may not hold whole.
+//! Recordings whose lengths matter: records of about 64 bytes, and recordings of about 65,536.
 
-use crate::text::record;
-
-/// No length of a recording is too much; this one once was the most, and a program may still count to it.
-pub(crate) const ONCE_MOST: usize = 65_536;
+use crate::{made::record, recording::MOST};
 
 pub(crate) fn all() -> Vec<Vec<u8>> {
     [long_records(), long_recordings()].concat()
@@ -39,11 +36,7 @@ fn stretched(line: usize, junk: u8, length: usize) -> Vec<u8> {
 
 fn long_recordings() -> Vec<Vec<u8>> {
     let mut made = Vec::new();
-    let near = [ONCE_MOST - 1, ONCE_MOST, ONCE_MOST + 1];
-    for length in near
-        .into_iter()
-        .chain([70_000, 2 * ONCE_MOST, 200_000, 1 << 20])
-    {
+    for length in [MOST - 1, MOST, MOST + 1, 70_000, 2 * MOST, 1 << 20] {
         made.push(whole(length));
         for junk in [b'x', b'\n', 0, b'0'] {
             made.push(vec![junk; length]);

@@ -5,6 +5,12 @@ use crate::{calls, damage, edits, lengths, lines, random::Random, runs};
 /// One random recording in this many is damaged.
 const DAMAGED: u64 = 3;
 
+/// A record's text.
+pub(crate) fn record(op: &str, slot: usize, generation: u64, arg: f64) -> Vec<u8> {
+    let arg = arg.to_bits();
+    format!("op={op}\nslot={slot}\ngen={generation}\narg={arg:016x}\n").into_bytes()
+}
+
 pub(crate) struct Made {
     seed: u64,
     fixed: Vec<Vec<u8>>,
@@ -54,8 +60,8 @@ mod tests {
     use crate::recording;
 
     /// The number of times that each refusal comes in a part; 0 stands for none.
-    fn numbers(made: &Made, part: impl Iterator<Item = usize>) -> [usize; 17] {
-        let mut counts = [0; 17];
+    fn numbers(made: &Made, part: impl Iterator<Item = usize>) -> [usize; 16] {
+        let mut counts = [0; 16];
         for number in part {
             let recording = made.get(number).expect("there is such a one");
             let refused = recording::replay(&recording).err();
@@ -68,7 +74,7 @@ mod tests {
     fn the_fixed_part_has_every_answer() {
         let made = Made::new(1, 0);
         let counts = numbers(&made, 0..made.fixed());
-        for number in [0, 1, 3, 7, 8, 9, 13, 14, 15, 16] {
+        for number in [0, 1, 3, 7, 8, 9, 11, 13, 14, 15] {
             assert!(counts[number] > 3, "{number}: {counts:?}");
         }
     }
@@ -78,7 +84,7 @@ mod tests {
         let made = Made::new(7, 1000);
         let counts = numbers(&made, made.fixed()..made.total());
         assert!(counts[0] > 500, "{counts:?}");
-        assert!(counts[13] > 100 && counts[16] > 10, "{counts:?}");
+        assert!(counts[13] > 100, "{counts:?}");
         assert!(counts[7] > 10 && counts[15] > 10, "{counts:?}");
     }
 

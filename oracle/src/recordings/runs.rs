@@ -1,6 +1,6 @@
 //! Random recordings of whole runs: clocks come and go, frames pass, and most calls are accepted.
 
-use crate::{doubles, random::Random, text::record};
+use crate::{doubles, made::record, random::Random};
 
 const SLOTS: usize = 16;
 const MOST_RECORDS: u64 = 60;

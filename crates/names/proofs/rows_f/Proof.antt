@@ -8,12 +8,7 @@ use Rattle.names.proofs.rows_f.Tie as tie
 returns : tie.Need-returns
 unfolding call_in
 returns c =
-    let at14 = c.before.before in
-    let at13 = at14.before.before in
-    let at12 = at13.before.before in
-    let at11 = at12.before.before in
-    let at10 = at11.before.before in
-    let at9 = at10.before.before in
+    let at9 = c.before.before in
     let at8 = at9.before.before in
     let at7 = at8.before.before in
     let at6 = at7.before.before in
@@ -22,12 +17,7 @@ returns c =
     let at3 = at4.before.before in
     let at2 = at3.before.before in
     let at1 = at2.before.before in
-    over _ _ _ c.row15.ensures
-    (over _ _ _ at14.row14.ensures
-    (over _ _ _ at13.row13.ensures
-    (over _ _ _ at12.row12.ensures
-    (over _ _ _ at11.row11.ensures
-    (over _ _ _ at10.row10.ensures
+    over _ _ _ c.row10.ensures
     (over _ _ _ at9.row9.ensures
     (over _ _ _ at8.row8.ensures
     (over _ _ _ at7.row7.ensures
@@ -36,17 +26,12 @@ returns c =
     (over _ _ _ at4.row4.ensures
     (over _ _ _ at3.row3.ensures
     (over _ _ _ at2.row2.ensures
-    at1.row.ensures)))))))))))))
+    at1.row.ensures))))))))
 
 pub rows-f-spec : {M : Type 1} → statement M
 rows-f-spec =
     tie.close
     (tie.spec
-    (λ c. search rules) (λ _ _. tt)
-    (λ c. search rules) (λ _ _. tt)
-    (λ c. search rules) (λ _ _. tt)
-    (λ c. search rules) (λ _ _. tt)
-    (λ c. search rules) (λ _ _. tt)
     (λ c. search rules) (λ _ _. tt)
     (λ c. search rules) (λ _ _. tt)
     (λ c. search rules) (λ _ _. tt)
