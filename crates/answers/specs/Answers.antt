@@ -43,11 +43,11 @@ lin = 0x6c ∷ 0x69 ∷ 0x6e ∷ []
 abbrev pub in_word : List ℕ
 in_word = 0x69 ∷ 0x6e ∷ blank
 
-abbrev pub outWord : List ℕ
-outWord = 0x6f ∷ 0x75 ∷ 0x74 ∷ blank
+abbrev pub out_word : List ℕ
+out_word = 0x6f ∷ 0x75 ∷ 0x74 ∷ blank
 
-abbrev pub ioWord : List ℕ
-ioWord = 0x69 ∷ 0x6f ∷ blank
+abbrev pub io_word : List ℕ
+io_word = 0x69 ∷ 0x6f ∷ blank
 
 -- "imm", "del", "clk"
 abbrev pub imm : List ℕ
@@ -60,65 +60,65 @@ abbrev pub clk : List ℕ
 clk = 0x63 ∷ 0x6c ∷ 0x6b ∷ blank
 
 -- "fix", "mod"
-abbrev pub fixWord : List ℕ
-fixWord = 0x66 ∷ 0x69 ∷ 0x78 ∷ blank
+abbrev pub fix_word : List ℕ
+fix_word = 0x66 ∷ 0x69 ∷ 0x78 ∷ blank
 
-abbrev pub modWord : List ℕ
-modWord = 0x6d ∷ 0x6f ∷ 0x64 ∷ blank
+abbrev pub mod_word : List ℕ
+mod_word = 0x6d ∷ 0x6f ∷ 0x64 ∷ blank
 
 -- "refused"
-abbrev pub refusedWord : List ℕ
-refusedWord = 0x72 ∷ 0x65 ∷ 0x66 ∷ 0x75 ∷ 0x73 ∷ 0x65 ∷ 0x64 ∷ blank
+abbrev pub refused_word : List ℕ
+refused_word = 0x72 ∷ 0x65 ∷ 0x66 ∷ 0x75 ∷ 0x73 ∷ 0x65 ∷ 0x64 ∷ blank
 
 -- ---- texts of several pieces
 
 -- "ID: SLOT:GENERATION, each decimal, up to 4294967295"
-abbrev pub idText : ℕ → ℕ → List (List ℕ)
-idText slot generation = number_text slot ∷ colon ∷ number_text generation ∷ []
+abbrev pub id_text : ℕ → ℕ → List (List ℕ)
+id_text slot generation = number_text slot ∷ colon ∷ number_text generation ∷ []
 
 -- "SPEED: spt F | tps F | tpm F"
-abbrev pub speedText : ClockSpeed → List (List ℕ)
-speedText (SecondsPerTick x) = spt ∷ float_text x ∷ []
-speedText (TicksPerSecond x) = tps ∷ float_text x ∷ []
-speedText (TicksPerMinute x) = tpm ∷ float_text x ∷ []
+abbrev pub speed_text : ClockSpeed → List (List ℕ)
+speed_text (SecondsPerTick x) = spt ∷ float_text x ∷ []
+speed_text (TicksPerSecond x) = tps ∷ float_text x ∷ []
+speed_text (TicksPerMinute x) = tpm ∷ float_text x ∷ []
 
 -- "EASE: lin | in N | out N | io N"
-abbrev pub easeText : Easing → List (List ℕ)
-easeText Linear = lin ∷ []
-easeText (InPowi n) = in_word ∷ number_text n ∷ []
-easeText (OutPowi n) = outWord ∷ number_text n ∷ []
-easeText (InOutPowi n) = ioWord ∷ number_text n ∷ []
+abbrev pub ease_text : Easing → List (List ℕ)
+ease_text Linear = lin ∷ []
+ease_text (InPowi n) = in_word ∷ number_text n ∷ []
+ease_text (OutPowi n) = out_word ∷ number_text n ∷ []
+ease_text (InOutPowi n) = io_word ∷ number_text n ∷ []
 
 -- a time, "N F": its whole ticks, and its fraction of one
-abbrev pub timeText : ClockTime → List (List ℕ)
-timeText t = number_text t.ticks ∷ blank ∷ float_text t.fraction ∷ []
+abbrev pub time_text : ClockTime → List (List ℕ)
+time_text t = number_text t.ticks ∷ blank ∷ float_text t.fraction ∷ []
 
 -- "START: imm | del NS | clk ID N F"
-abbrev pub startText : StartTime → List (List ℕ)
-startText Immediate = imm ∷ []
-startText (Delayed ns) = del ∷ number_text ns ∷ []
-startText (At t) = clk ∷ (idText t.clock.slot t.clock.generation ++ (blank ∷ timeText t))
+abbrev pub start_text : StartTime → List (List ℕ)
+start_text Immediate = imm ∷ []
+start_text (Delayed ns) = del ∷ number_text ns ∷ []
+start_text (At t) = clk ∷ (id_text t.clock.slot t.clock.generation ++ (blank ∷ time_text t))
 
 -- "FMAP: F F F F EASE (in lo, in hi, out lo, out hi, easing)"
-abbrev pub floatMapText : FloatMapping → List (List ℕ)
-floatMapText m =
-    float_text m.in_lo ∷ blank ∷ float_text m.in_hi ∷ blank ∷ float_text m.out_lo ∷ blank ∷ float_text m.out_hi ∷ blank ∷ easeText m.easing
+abbrev pub float_map_text : FloatMapping → List (List ℕ)
+float_map_text m =
+    float_text m.in_lo ∷ blank ∷ float_text m.in_hi ∷ blank ∷ float_text m.out_lo ∷ blank ∷ float_text m.out_hi ∷ blank ∷ ease_text m.easing
 
 -- "FVAL: fix F | mod ID FMAP"
-abbrev pub floatValueText : FloatValue → List (List ℕ)
-floatValueText (Fixed x) = fixWord ∷ float_text x ∷ []
-floatValueText (FromModulator i m) = modWord ∷ (idText i.slot i.generation ++ (blank ∷ floatMapText m))
+abbrev pub float_value_text : FloatValue → List (List ℕ)
+float_value_text (Fixed x) = fix_word ∷ float_text x ∷ []
+float_value_text (FromModulator i m) = mod_word ∷ (id_text i.slot i.generation ++ (blank ∷ float_map_text m))
 
 -- ---- whole answers: "answers each with one line"
 
 -- "A refused call is answered `refused N`"
-abbrev pub refusedText : ℕ → List (List ℕ)
-refusedText n = refusedWord ∷ number_text n ∷ []
+abbrev pub refused_text : ℕ → List (List ℕ)
+refused_text n = refused_word ∷ number_text n ∷ []
 
-abbrev pub floatedText : Floated → List (List ℕ)
-floatedText (floated.Is x) = float_text x ∷ []
-floatedText (floated.Refused n) = refusedText n
+abbrev pub floated_text : Floated → List (List ℕ)
+floated_text (floated.Is x) = float_text x ∷ []
+floated_text (floated.Refused n) = refused_text n
 
-abbrev pub speededText : Speeded → List (List ℕ)
-speededText (speeded.Is s) = speedText s
-speededText (speeded.Refused n) = refusedText n
+abbrev pub speeded_text : Speeded → List (List ℕ)
+speeded_text (speeded.Is s) = speed_text s
+speeded_text (speeded.Refused n) = refused_text n

@@ -2,8 +2,10 @@
 // place on, and answers the place behind it. A text of several pieces is put piece by piece, and a
 // piece that does not fit is left out. No function has a `requires`: each takes any buffer and any
 // place.
+#![tactic(auto)]
+
 ghost use Rattle.std.specs.Prelude.{◌≡◌};
-ghost use Rattle.answers.specs.Answers.{speedText, easeText, timeText, idText, startText, floatMapText, floatValueText, refusedText, floatedText, speededText};
+ghost use Rattle.answers.specs.Answers.{speed_text, ease_text, time_text, id_text, start_text, float_map_text, float_value_text, refused_text, floated_text, speeded_text};
 ghost use Rattle.digits.specs.Puts.{place, put_all, line_of};
 
 use digits::{counted, end, float, named, number, put};
@@ -15,7 +17,7 @@ use values::clock_speed::{ClockSpeed, Speeded};
 use values::value::{FloatMapping, FloatValue};
 
 pub fn speed(out: &mut [u8], at: usize, s: ClockSpeed) -> usize
-    ensures { place out.new result ≡ put_all (place out.old at) (speedText s) }
+    ensures { place out.new result ≡ put_all (place out.old at) (speed_text s) }
 {
     match s {
         ClockSpeed::SecondsPerTick(x) => named(out, at, b"spt ", x),
@@ -25,7 +27,7 @@ pub fn speed(out: &mut [u8], at: usize, s: ClockSpeed) -> usize
 }
 
 pub fn ease(out: &mut [u8], at: usize, e: Easing) -> usize
-    ensures { place out.new result ≡ put_all (place out.old at) (easeText e) }
+    ensures { place out.new result ≡ put_all (place out.old at) (ease_text e) }
 {
     match e {
         Easing::Linear => put(out, at, b"lin"),
@@ -37,7 +39,7 @@ pub fn ease(out: &mut [u8], at: usize, e: Easing) -> usize
 
 // Whole ticks, and the fraction of one.
 pub fn time(out: &mut [u8], at: usize, t: ClockTime) -> usize
-    ensures { place out.new result ≡ put_all (place out.old at) (timeText t) }
+    ensures { place out.new result ≡ put_all (place out.old at) (time_text t) }
 {
     let behind = number(out, at, t.ticks);
     named(out, behind, b" ", t.fraction)
@@ -45,14 +47,14 @@ pub fn time(out: &mut [u8], at: usize, t: ClockTime) -> usize
 
 // A slot, and its generation.
 pub fn id(out: &mut [u8], at: usize, slot: u32, generation: u32) -> usize
-    ensures { place out.new result ≡ put_all (place out.old at) (idText slot generation) }
+    ensures { place out.new result ≡ put_all (place out.old at) (id_text slot generation) }
 {
     let behind = number(out, at, slot as u64);
     counted(out, behind, b":", generation as u64)
 }
 
 pub fn start(out: &mut [u8], at: usize, s: StartTime) -> usize
-    ensures { place out.new result ≡ put_all (place out.old at) (startText s) }
+    ensures { place out.new result ≡ put_all (place out.old at) (start_text s) }
 {
     match s {
         StartTime::Immediate => put(out, at, b"imm"),
@@ -63,7 +65,7 @@ pub fn start(out: &mut [u8], at: usize, s: StartTime) -> usize
 
 // A clock's time, with the clock.
 fn clock_time(out: &mut [u8], at: usize, t: ClockTime) -> usize
-    ensures { place out.new result ≡ put_all (place out.old at) (startText (StartTime.At t)) }
+    ensures { place out.new result ≡ put_all (place out.old at) (start_text (StartTime.At t)) }
 {
     let a = put(out, at, b"clk ");
     let clock = t.clock;
@@ -73,7 +75,7 @@ fn clock_time(out: &mut [u8], at: usize, t: ClockTime) -> usize
 }
 
 pub fn float_map(out: &mut [u8], at: usize, m: FloatMapping) -> usize
-    ensures { place out.new result ≡ put_all (place out.old at) (floatMapText m) }
+    ensures { place out.new result ≡ put_all (place out.old at) (float_map_text m) }
 {
     let a = float(out, at, m.in_lo);
     let b = named(out, a, b" ", m.in_hi);
@@ -85,7 +87,7 @@ pub fn float_map(out: &mut [u8], at: usize, m: FloatMapping) -> usize
 }
 
 pub fn float_value(out: &mut [u8], at: usize, v: FloatValue) -> usize
-    ensures { place out.new result ≡ put_all (place out.old at) (floatValueText v) }
+    ensures { place out.new result ≡ put_all (place out.old at) (float_value_text v) }
 {
     match v {
         FloatValue::Fixed(x) => named(out, at, b"fix ", x),
@@ -100,7 +102,7 @@ pub fn float_value(out: &mut [u8], at: usize, v: FloatValue) -> usize
 
 // A whole answer: a refusal.
 pub fn refused(out: &mut [u8], n: u32) -> usize
-    ensures { place out.new result ≡ put_all (place out.old 0) (line_of (refusedText n)) }
+    ensures { place out.new result ≡ put_all (place out.old 0) (line_of (refused_text n)) }
 {
     let at = counted(out, 0, b"refused ", n as u64);
     end(out, at)
@@ -108,7 +110,7 @@ pub fn refused(out: &mut [u8], n: u32) -> usize
 
 // A whole answer: a double, or a refusal.
 pub fn floated(out: &mut [u8], r: Floated) -> usize
-    ensures { place out.new result ≡ put_all (place out.old 0) (line_of (floatedText r)) }
+    ensures { place out.new result ≡ put_all (place out.old 0) (line_of (floated_text r)) }
 {
     match r {
         Floated::Is(x) => {
@@ -121,7 +123,7 @@ pub fn floated(out: &mut [u8], r: Floated) -> usize
 
 // A whole answer: a speed, or a refusal.
 pub fn speeded(out: &mut [u8], r: Speeded) -> usize
-    ensures { place out.new result ≡ put_all (place out.old 0) (line_of (speededText r)) }
+    ensures { place out.new result ≡ put_all (place out.old 0) (line_of (speeded_text r)) }
 {
     match r {
         Speeded::Is(s) => {

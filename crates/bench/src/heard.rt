@@ -4,7 +4,7 @@ use names::{Call, ParameterCall, call_of};
 use text::Word;
 
 // What a call is for, of what the program holds. Seen: the station, which it leaves as it is.
-#[derive(Drop)]
+#[derive(Clone, Copy)]
 pub enum Part {
     All,
     Station,
@@ -15,7 +15,7 @@ pub enum Part {
 }
 
 // A line's bytes, the call that it names and the place behind the name; and whether it gets no answer.
-#[derive(Drop)]
+#[derive(Clone, Copy)]
 pub struct Heard {
     pub silent: bool,
     pub bytes: Word,

@@ -13,7 +13,7 @@ use ticks::Position;
 use times::time::{ClockTime, clock_time_faults};
 
 // A slot of the table and its new key, if the line names a slot that is free.
-#[derive(Drop)]
+#[derive(Clone, Copy)]
 enum KeyAt {
     Is(usize, Key),
     No,

@@ -1,6 +1,8 @@
 // The bench: calls on standard input, one a line, each answered with a line on standard output.
 // docs/BENCH.md has the calls. Input has no cap: it is taken in portions, and what has been read is
 // answered before more is read.
+#![tactic(auto)]
+
 mod families;
 mod heard;
 mod holds;
@@ -24,7 +26,7 @@ const TOO_LONG: usize = 1025;
 
 // Where the reading stands: the number of bytes of an unfinished line, the place in the portion and the
 // portion's end, whether the input has ended, and the last line that was heard.
-#[derive(Drop)]
+#[derive(Clone, Copy)]
 pub struct Reading {
     pub count: usize,
     pub at: usize,
@@ -34,7 +36,7 @@ pub struct Reading {
 }
 
 // A line so far: its bytes, whether it is whole, and the place in the portion behind it.
-#[derive(Drop)]
+#[derive(Clone, Copy)]
 pub struct Gathered {
     pub count: usize,
     pub whole: bool,

@@ -13,14 +13,14 @@ use run::Ran;
 use station::Station;
 
 // The answer's length, 0 where the line is no call, and the station.
-#[derive(Drop)]
+#[derive(Clone, Copy)]
 pub struct StationActed {
     pub n: usize,
     pub station: Station,
 }
 
 // What a line asks the station to run, if it does.
-#[derive(Drop)]
+#[derive(Clone, Copy)]
 enum ToRun {
     Is(run::Call),
     No,

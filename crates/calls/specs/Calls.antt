@@ -20,7 +20,7 @@ use Rattle.names.specs.declared.CurveCall.{CurveCall}
 use Rattle.names.specs.declared.CurveCall.TheVariants as curve
 use Rattle.names.specs.declared.SpeedCall.{SpeedCall}
 use Rattle.names.specs.declared.SpeedCall.TheVariants as speed
-use Rattle.answers.specs.Answers.{blank, speedText, easeText, startText, refusedText}
+use Rattle.answers.specs.Answers.{blank, speed_text, ease_text, start_text, refused_text}
 use Rattle.digits.specs.Digits.{float_text, number_text}
 use Rattle.digits.specs.Puts.{line_of}
 
@@ -29,12 +29,12 @@ use Rattle.digits.specs.Puts.{line_of}
 -- "`F`"
 abbrev pub float_answer_text : Answer Float → List (List ℕ)
 float_answer_text (accepted x) = float_text x ∷ []
-float_answer_text (refused n) = refusedText n
+float_answer_text (refused n) = refused_text n
 
 -- "`SPEED`"
 abbrev pub speed_answer_text : Answer ClockSpeed → List (List ℕ)
-speed_answer_text (accepted s) = speedText s
-speed_answer_text (refused n) = refusedText n
+speed_answer_text (accepted s) = speed_text s
+speed_answer_text (refused n) = refused_text n
 
 -- "`F`, on any double": never refused
 abbrev pub float_line : Float → List (List ℕ)
@@ -48,7 +48,7 @@ speed_answer a = line_of (speed_answer_text a)
 
 -- "TWEEN: START NS EASE (NS is the duration)"
 abbrev pub tween_text : Tween → List (List ℕ)
-tween_text t = startText t.start_time ++ (blank ∷ number_text t.duration ∷ blank ∷ easeText t.easing)
+tween_text t = start_text t.start_time ++ (blank ∷ number_text t.duration ∷ blank ∷ ease_text t.easing)
 
 -- ---- no call
 

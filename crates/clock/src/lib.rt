@@ -1,4 +1,6 @@
 // One clock, as clock.rs has it.
+#![tactic(auto)]
+
 ghost use Rattle.std.specs.Prelude.{◌≡◌};
 ghost use Rattle.clock.specs.OneClock.{new_clock, position_of, info_of, ticking_of, reset_of, sped_of, fresh_of, no_report, report_of, told_moved, tick_of, update_clock_of};
 
@@ -9,13 +11,13 @@ use times::start_time::When;
 use values::clock_speed::{ClockSpeed, as_ticks_per_second};
 use values::value::{Input, SpeedValue};
 
-#[derive(Drop)]
+#[derive(Clone, Copy)]
 pub enum ClockState {
     NotStarted,
     Started(Position),
 }
 
-#[derive(Drop)]
+#[derive(Clone, Copy)]
 pub struct Clock {
     pub ticking: bool,
     pub speed: SpeedParameter,
@@ -23,7 +25,7 @@ pub struct Clock {
 }
 
 // What is seen of one clock. A clock that has not started reads 0 and 0.0.
-#[derive(Drop)]
+#[derive(Clone, Copy)]
 pub struct ClockInfo {
     pub ticking: bool,
     pub ticks: u64,
@@ -31,20 +33,20 @@ pub struct ClockInfo {
 }
 
 // The tick that an update reported, or none: then `tick` is 0.
-#[derive(Drop)]
+#[derive(Clone, Copy)]
 pub struct Reported {
     pub told: bool,
     pub tick: u64,
 }
 
 // A clock after its update, and what it reported.
-#[derive(Drop)]
+#[derive(Clone, Copy)]
 pub struct Ticked {
     pub clock: Clock,
     pub report: Reported,
 }
 
-#[derive(Drop)]
+#[derive(Clone, Copy)]
 pub enum Moved {
     Is(Ticked),
     Refused(u32),

@@ -1,5 +1,7 @@
 // The table of clocks, and the calls on it: by an id, or adding one.
 
+#![tactic(auto)]
+
 ghost use Rattle.std.specs.Prelude.{◌<◌, ◌≡◌, true, false};
 ghost use Rattle.times.specs.Times.{told_time};
 ghost use Rattle.values.specs.Speeds.{told_speed};
@@ -15,46 +17,46 @@ use values::clock_speed::{ClockSpeed, Speeded};
 use values::value::{SpeedValue, speed_value_faults};
 
 // A key and a clock for each slot. What a slot that is not used holds is not read.
-#[derive(Drop)]
+#[derive(Clone, Copy)]
 pub struct Clocks {
     pub keys: [Key; 16],
     pub clocks: [Clock; 16],
 }
 
 // The table after a call, and 0 or the number of its refusal: then the table is as it was.
-#[derive(Drop)]
+#[derive(Clone, Copy)]
 pub struct ClockDone {
     pub refused: u32,
     pub table: Clocks,
 }
 
-#[derive(Drop)]
+#[derive(Clone, Copy)]
 pub enum ClockNamed {
     Is(ClockId),
     Refused(u32),
 }
 
-#[derive(Drop)]
+#[derive(Clone, Copy)]
 pub struct ClockAdded {
     pub answer: ClockNamed,
     pub table: Clocks,
 }
 
-#[derive(Drop)]
+#[derive(Clone, Copy)]
 pub enum Flagged {
     Is(bool),
     Refused(u32),
 }
 
 // The clock that an id names, with its slot; or the number that a call on it is refused with.
-#[derive(Drop)]
+#[derive(Clone, Copy)]
 pub enum Looked {
     At(usize, Clock),
     Refused(u32),
 }
 
 // A clock as a set of its speed leaves it, and 0 or the number of the refusal: then the clock is as it was.
-#[derive(Drop)]
+#[derive(Clone, Copy)]
 struct Sped {
     refused: u32,
     clock: Clock,

@@ -7,7 +7,7 @@ use Rattle.judge.proofs.Outcomes.{told}
 use Rattle.clock_table.specs.declared.Clocks.{Clocks}
 use Rattle.modulator_table.specs.declared.Modulators.{Modulators}
 use Rattle.judge.specs.Answer.{Answer, accepted, refused}
-use Rattle.commands.specs.Answers.{Given, done, named, time, flag, speed, value, ofClock, ofModulator, toldAnswer, Left}
+use Rattle.commands.specs.Answers.{Given, done, named, time, flag, speed, value, of_clock, of_modulator, told_answer, Left}
 use Rattle.commands.specs.ClockCommands as clocks
 use Rattle.commands.specs.ModulatorCommands as modulators
 use Rattle.commands.specs.declared.CallAnswer.{CallAnswer}
@@ -24,15 +24,15 @@ use Rattle.commands.proofs.modulator_command.run_modulator.Kinds as run-modulato
 -- the answer is told whole: it can be read back
 back : Answer Given → CallAnswer
 back (accepted done) = answer.Done
-back (accepted (named ofClock i g)) = answer.Clock (record { slot = i; generation = g })
-back (accepted (named ofModulator i g)) = answer.Modulator (record { slot = i; generation = g })
+back (accepted (named of_clock i g)) = answer.Clock (record { slot = i; generation = g })
+back (accepted (named of_modulator i g)) = answer.Modulator (record { slot = i; generation = g })
 back (accepted (time t)) = answer.Time t
 back (accepted (flag b)) = answer.Flag b
 back (accepted (speed s)) = answer.Speed s
 back (accepted (value x)) = answer.Value x
 back (refused n) = answer.Refused n
 
-read_back : (x : CallAnswer) → back (toldAnswer x) ≡ x
+read_back : (x : CallAnswer) → back (told_answer x) ≡ x
 unfolding back
 read_back answer.Done = refl
 read_back (answer.Clock id) = refl
@@ -44,7 +44,7 @@ read_back (answer.Value x) = refl
 read_back (answer.Refused n) = refl
 
 -- two answers that tell the same are one
-pub same_answer : (x y : CallAnswer) → toldAnswer x ≡ toldAnswer y → x ≡ y
+pub same_answer : (x y : CallAnswer) → told_answer x ≡ told_answer y → x ≡ y
 same_answer x y e = sym (read_back x) ∙ ap back e ∙ read_back y
 
 same_clocks : (x y : ClockRan) → clocks.told_ran x ≡ clocks.told_ran y → x ≡ y

@@ -9,8 +9,8 @@ use Rattle.commands.specs.declared.CallAnswer.TheVariants as answer
 
 -- an id is of a clock or of a modulator: RULES, id
 pub data Kind : Type 0 where
-  ofClock : Kind
-  ofModulator : Kind
+  of_clock : Kind
+  of_modulator : Kind
 
 -- what an accepted call gives: nothing, the id of the entry that was added (slot, then generation), or what was read
 pub data Given : Type 0 where
@@ -21,19 +21,19 @@ pub data Given : Type 0 where
   speed : ClockSpeed → Given
   value : Float → Given
 
-abbrev pub toldAnswer : CallAnswer → Answer Given
-toldAnswer answer.Done = accepted done
-toldAnswer (answer.Clock id) = accepted (named ofClock id.slot id.generation)
-toldAnswer (answer.Modulator id) = accepted (named ofModulator id.slot id.generation)
-toldAnswer (answer.Time t) = accepted (time t)
-toldAnswer (answer.Flag b) = accepted (flag b)
-toldAnswer (answer.Speed s) = accepted (speed s)
-toldAnswer (answer.Value x) = accepted (value x)
-toldAnswer (answer.Refused n) = refused n
+abbrev pub told_answer : CallAnswer → Answer Given
+told_answer answer.Done = accepted done
+told_answer (answer.Clock id) = accepted (named of_clock id.slot id.generation)
+told_answer (answer.Modulator id) = accepted (named of_modulator id.slot id.generation)
+told_answer (answer.Time t) = accepted (time t)
+told_answer (answer.Flag b) = accepted (flag b)
+told_answer (answer.Speed s) = accepted (speed s)
+told_answer (answer.Value x) = accepted (value x)
+told_answer (answer.Refused n) = refused n
 
 -- 0 is OK: RULES, ok
-abbrev pub byNumber : ℕ → Answer Given
-byNumber n = decided n (accepted done) refused
+abbrev pub by_number : ℕ → Answer Given
+by_number n = decided n (accepted done) refused
 
 -- what a call answers, and the table that it leaves
 pub record Left (T : Type 0) : Type 0 where

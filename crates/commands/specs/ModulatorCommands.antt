@@ -6,19 +6,19 @@ use Rattle.values.specs.declared.value.ModulatorId.{ModulatorId}
 use Rattle.modulator_table.specs.ModulatorTables.{add_tweener_of, add_lfo_of, remove_of, set_tweener_of, set_parameter_of, set_waveform_of, set_phase_of, modulator_value_of}
 use Rattle.modulator_table.specs.declared.Modulators.{Modulators}
 use Rattle.modulator_table.specs.declared.ModulatorDone.{ModulatorDone}
-use Rattle.commands.specs.Answers.{ofModulator, named, value, toldAnswer, byNumber, Left}
+use Rattle.commands.specs.Answers.{of_modulator, named, value, told_answer, by_number, Left}
 use Rattle.commands.specs.declared.modulator_command.ModulatorCommand.{ModulatorCommand}
 use Rattle.commands.specs.declared.modulator_command.ModulatorCommand.TheVariants as command
 use Rattle.commands.specs.declared.modulator_command.ModulatorRan.{ModulatorRan}
 
 abbrev pub told_ran : ModulatorRan → Left Modulators
-told_ran r = record { answer = toldAnswer r.answer; table = r.table }
+told_ran r = record { answer = told_answer r.answer; table = r.table }
 
 abbrev pub added_as : Added Modulators ModulatorId → Left Modulators
-added_as r = record { answer = on_accepted (λ id. named ofModulator id.slot id.generation) r.answer; table = r.table }
+added_as r = record { answer = on_accepted (λ id. named of_modulator id.slot id.generation) r.answer; table = r.table }
 
 abbrev pub done_as : ModulatorDone → Left Modulators
-done_as r = record { answer = byNumber r.refused; table = r.table }
+done_as r = record { answer = by_number r.refused; table = r.table }
 
 unfoldable pub run_modulator_of : Modulators → ModulatorCommand → Left Modulators
 run_modulator_of t (command.AddTweener x) = added_as (add_tweener_of t x)

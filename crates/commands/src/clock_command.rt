@@ -4,7 +4,7 @@ ghost use Rattle.judge.specs.Answer.{on_accepted};
 ghost use Rattle.times.specs.Times.{told_time};
 ghost use Rattle.values.specs.Speeds.{told_speed};
 ghost use Rattle.clock_table.specs.ClockTables.{told_added, told_flag};
-ghost use Rattle.commands.specs.Answers.{time, flag, speed, toldAnswer};
+ghost use Rattle.commands.specs.Answers.{time, flag, speed, told_answer};
 ghost use Rattle.commands.specs.ClockCommands.{told_ran, added_as, done_as, run_clock_of};
 
 use crate::{CallAnswer, by_number};
@@ -17,7 +17,7 @@ use times::tween::Tween;
 use values::clock_speed::Speeded;
 use values::value::SpeedValue;
 
-#[derive(Drop)]
+#[derive(Clone, Copy)]
 pub enum ClockCommand {
     Add(SpeedValue),
     Remove(ClockId),
@@ -30,7 +30,7 @@ pub enum ClockCommand {
     Speed(ClockId),
 }
 
-#[derive(Drop)]
+#[derive(Clone, Copy)]
 pub struct ClockRan {
     pub answer: CallAnswer,
     pub table: Clocks,
@@ -59,7 +59,7 @@ fn done(r: ClockDone) -> ClockRan
 }
 
 fn time_told(r: Timed) -> CallAnswer
-    ensures { toldAnswer result ≡ on_accepted time (told_time r) }
+    ensures { told_answer result ≡ on_accepted time (told_time r) }
 {
     match r {
         Timed::At(t) => CallAnswer::Time(t),
@@ -68,7 +68,7 @@ fn time_told(r: Timed) -> CallAnswer
 }
 
 fn flag_told(r: Flagged) -> CallAnswer
-    ensures { toldAnswer result ≡ on_accepted flag (told_flag r) }
+    ensures { told_answer result ≡ on_accepted flag (told_flag r) }
 {
     match r {
         Flagged::Is(b) => CallAnswer::Flag(b),
@@ -77,7 +77,7 @@ fn flag_told(r: Flagged) -> CallAnswer
 }
 
 fn speed_told(r: Speeded) -> CallAnswer
-    ensures { toldAnswer result ≡ on_accepted speed (told_speed r) }
+    ensures { told_answer result ≡ on_accepted speed (told_speed r) }
 {
     match r {
         Speeded::Is(s) => CallAnswer::Speed(s),

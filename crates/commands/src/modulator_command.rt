@@ -2,7 +2,7 @@
 ghost use Rattle.std.specs.Prelude.{◌≡◌};
 ghost use Rattle.judge.specs.Answer.{on_accepted, told_float};
 ghost use Rattle.modulator_table.specs.ModulatorTables.{told_added};
-ghost use Rattle.commands.specs.Answers.{value, toldAnswer};
+ghost use Rattle.commands.specs.Answers.{value, told_answer};
 ghost use Rattle.commands.specs.ModulatorCommands.{told_ran, added_as, done_as, run_modulator_of};
 
 use crate::{CallAnswer, by_number};
@@ -16,7 +16,7 @@ use times::tween::Tween;
 use values::value::{FloatValue, ModulatorId};
 use waveform::Waveform;
 
-#[derive(Drop)]
+#[derive(Clone, Copy)]
 pub enum ModulatorCommand {
     AddTweener(f64),
     AddLfo(LfoBuilder),
@@ -28,7 +28,7 @@ pub enum ModulatorCommand {
     Value(ModulatorId),
 }
 
-#[derive(Drop)]
+#[derive(Clone, Copy)]
 pub struct ModulatorRan {
     pub answer: CallAnswer,
     pub table: Modulators,
@@ -57,7 +57,7 @@ fn done(r: ModulatorDone) -> ModulatorRan
 }
 
 fn value_told(r: Floated) -> CallAnswer
-    ensures { toldAnswer result ≡ on_accepted value (told_float r) }
+    ensures { told_answer result ≡ on_accepted value (told_float r) }
 {
     match r {
         Floated::Is(x) => CallAnswer::Value(x),

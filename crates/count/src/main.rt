@@ -1,5 +1,7 @@
 // Runs a case a number of times, for tools/speed to count instructions (docs/SPEED.md). It reads lines
 // `CASE COUNT` from standard input, 65,536 bytes at most, and answers each with what came of the case.
+#![tactic(auto)]
+
 mod cases;
 mod made;
 mod told;

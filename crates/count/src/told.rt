@@ -2,14 +2,14 @@
 use info::info::Info;
 
 // What is seen of a station, and the ticks that one of its clocks reported, mixed into one number.
-#[derive(Drop)]
+#[derive(Clone, Copy)]
 pub struct Seen {
     pub info: Info,
     pub reported: u64,
 }
 
 // Each other number is mixed of all slots.
-#[derive(Drop)]
+#[derive(Clone, Copy)]
 pub struct Told {
     pub reported: u64,
     pub ticks: u64,

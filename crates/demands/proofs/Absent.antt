@@ -40,7 +40,7 @@ use Rattle.info.specs.Infos.{when_to_start_of, modulator_value_of, float_input_o
 use Rattle.info.specs.ParametersIn.{course_due_of, float_due_in, float_source_in, try_update_float_in, speed_due_in, speed_source_in, try_update_speed_in}
 use Rattle.station.specs.Stations.{info_in}
 use Rattle.station.specs.declared.Station.{Station}
-use Rattle.laws.specs.Calls.{ofClock, ofModulator, lives}
+use Rattle.laws.specs.Calls.{of_clock, of_modulator, lives}
 use Rattle.laws.proofs.lemmas.Deeds.{cond_case}
 use Rattle.demands.specs.Links.{float_value, speed_value}
 
@@ -50,17 +50,17 @@ either false x = refl
 
 module _ (st : Station) where
   -- a wait for it is due never, and a link to it finds nothing
-  pub waits_never : (t : ClockTime) → lives ofClock st t.clock.slot t.clock.generation ≡ false → when_to_start_of (info_in st) t ≡ Never
+  pub waits_never : (t : ClockTime) → lives of_clock st t.clock.slot t.clock.generation ≡ false → when_to_start_of (info_in st) t ≡ Never
   unfolding when_to_start_of info_in
   waits_never t d = rw (find_missing st.clocks.keys t.clock.slot t.clock.generation d)
 
-  pub link_none : (id : ModulatorId) → lives ofModulator st id.slot id.generation ≡ false → modulator_value_of (info_in st) id ≡ None
+  pub link_none : (id : ModulatorId) → lives of_modulator st id.slot id.generation ≡ false → modulator_value_of (info_in st) id ≡ None
   unfolding modulator_value_of info_in
   link_none id d = rw (find_missing st.modulators.keys id.slot id.generation d)
 
   -- ---- a tween that waits for it
 
-  module _ (c : Course) (t : ClockTime) (e : c.tween.start_time ≡ At t) (d : lives ofClock st t.clock.slot t.clock.generation ≡ false) (dt : Float) where
+  module _ (c : Course) (t : ClockTime) (e : c.tween.start_time ≡ At t) (d : lives of_clock st t.clock.slot t.clock.generation ≡ false) (dt : Float) where
     -- the tween stands as it was: RULES, wait
     pub waits_on : step_of c dt (course_due_of (info_in st) c) ≡ Waits c
     unfolding step_of
@@ -69,7 +69,7 @@ module _ (st : Station) where
   -- so an update, accepted or refused, leaves the parameter in its state
   pub float_waits :
       (p : FloatParameter) (w : FloatTweening) (t : ClockTime) → p.state ≡ floatState.Tweening w → w.course.tween.start_time ≡ At t
-      → lives ofClock st t.clock.slot t.clock.generation ≡ false → (dt : Float) → (try_update_float_in (info_in st) p dt).parameter.state ≡ p.state
+      → lives of_clock st t.clock.slot t.clock.generation ≡ false → (dt : Float) → (try_update_float_in (info_in st) p dt).parameter.state ≡ p.state
   unfolding try_update_float_in floats.try_update_of floats.update_of floats.tweened_of
   float_waits p w t s e d dt =
       rw s
@@ -79,7 +79,7 @@ module _ (st : Station) where
 
   pub speed_waits :
       (p : SpeedParameter) (w : SpeedTweening) (t : ClockTime) → p.state ≡ speedState.Tweening w → w.course.tween.start_time ≡ At t
-      → lives ofClock st t.clock.slot t.clock.generation ≡ false → (dt : Float) → (try_update_speed_in (info_in st) p dt).parameter.state ≡ p.state
+      → lives of_clock st t.clock.slot t.clock.generation ≡ false → (dt : Float) → (try_update_speed_in (info_in st) p dt).parameter.state ≡ p.state
   unfolding try_update_speed_in speeds.try_update_of speeds.update_of speeds.tweened_of
   speed_waits p w t s e d dt =
       rw s
@@ -90,7 +90,7 @@ module _ (st : Station) where
   -- ---- a value that is linked to it
 
   -- an update, accepted or refused, leaves the value that the parameter shows: RULES, missing-modulator
-  module _ (id : ModulatorId) (d : lives ofModulator st id.slot id.generation ≡ false) (dt : Float) where
+  module _ (id : ModulatorId) (d : lives of_modulator st id.slot id.generation ≡ false) (dt : Float) where
     pub float_stays : (p : FloatParameter) (m : FloatMapping) → float_value p.state ≡ float.FromModulator id m → (try_update_float_in (info_in st) p dt).parameter.raw ≡ p.raw
     unfolding try_update_float_in floats.try_update_of floats.update_of floats.tweened_of
     float_stays p m e =

@@ -30,7 +30,7 @@ use Rattle.commands.specs.declared.clock_command.ClockCommand.TheVariants as com
 use Rattle.station.specs.Frames.{frame_of}
 use Rattle.station.specs.Stations.{fresh_station}
 use Rattle.station.specs.declared.Station.{Station}
-use Rattle.laws.specs.Calls.{Call, clock, modulator, frame, after, after_all, ofClock, named, told}
+use Rattle.laws.specs.Calls.{Call, clock, modulator, frame, after, after_all, of_clock, named, told}
 use Rattle.laws.specs.SoundStation.{All}
 use Rattle.laws.proofs.lemmas.Entries.{Names, names_read}
 use Rattle.laws.proofs.lemmas.OneClock.{Makes, leaves, starts, stops, resets, speeds, command_makes}
@@ -53,7 +53,7 @@ new_fresh st id n = record { slot = n.slot; clock = n.clock; lives = names_read 
 -- ---- the add
 
 module _ (t : Clocks) (s : Sixteen t) (v : SpeedValue) (id : ClockId) where
-  put : (w : Answer Place) → free_of 0 t.keys ≡ w → (added_as (placed_in clock_table t (new_clock v) w)).answer ≡ named ofClock id.slot id.generation → New (placed_in clock_table t (new_clock v) w).table id
+  put : (w : Answer Place) → free_of 0 t.keys ≡ w → (added_as (placed_in clock_table t (new_clock v) w)).answer ≡ named of_clock id.slot id.generation → New (placed_in clock_table t (new_clock v) w).table id
   put (refused m) e a = let z : ◌≡◌ {A = ℕ} 0 1 = cc in absurd (omega arith)
   put (accepted (place i g)) e a =
       let p : i ≡ id.slot = cc in
@@ -69,18 +69,18 @@ module _ (t : Clocks) (s : Sixteen t) (v : SpeedValue) (id : ClockId) where
         unstarted = refl;
       }
 
-  added : (added_as (add_clock_of t v)).answer ≡ named ofClock id.slot id.generation → New (add_clock_of t v).table id
+  added : (added_as (add_clock_of t v)).answer ≡ named of_clock id.slot id.generation → New (add_clock_of t v).table id
   unfolding add_clock_of
   added = go (eqb n 0)
     where
       n : ℕ
       n = number_of (of_add (speed_value_faults v) (is_refused (free_of 0 t.keys)))
 
-      go : (b : Bool) → (added_as (cond b (placed_in clock_table t (new_clock v) (free_of 0 t.keys)) (refused_add clock_table t n))).answer ≡ named ofClock id.slot id.generation → New (cond b (placed_in clock_table t (new_clock v) (free_of 0 t.keys)) (refused_add clock_table t n)).table id
+      go : (b : Bool) → (added_as (cond b (placed_in clock_table t (new_clock v) (free_of 0 t.keys)) (refused_add clock_table t n))).answer ≡ named of_clock id.slot id.generation → New (cond b (placed_in clock_table t (new_clock v) (free_of 0 t.keys)) (refused_add clock_table t n)).table id
       go true a = put (free_of 0 t.keys) refl a
       go false a = let z : ◌≡◌ {A = ℕ} 0 1 = cc in absurd (omega arith)
 
-pub add_fresh : (st : Station) → Sixteen st.clocks → (v : SpeedValue) (id : ClockId) → told st (clock (command.Add v)) ≡ named ofClock id.slot id.generation → New (after st (clock (command.Add v))).clocks id
+pub add_fresh : (st : Station) → Sixteen st.clocks → (v : SpeedValue) (id : ClockId) → told st (clock (command.Add v)) ≡ named of_clock id.slot id.generation → New (after st (clock (command.Add v))).clocks id
 unfolding run_clock_of
 add_fresh st s v id a = added st.clocks s v id a
 
@@ -129,7 +129,7 @@ fresh_kept st id (c ∷ cs) n s = fresh_kept (after st c) id cs (call_kept st id
 -- can be asked of it: RULES, run. A clock that was started and then reset is fresh for `served` too, but nothing here
 -- leads there.
 pub reached_fresh :
-    (cs : List Call) (v : SpeedValue) (id : ClockId) (ds : List Call) → told (after_all fresh_station cs) (clock (command.Add v)) ≡ named ofClock id.slot id.generation → All (Spares id) ds
+    (cs : List Call) (v : SpeedValue) (id : ClockId) (ds : List Call) → told (after_all fresh_station cs) (clock (command.Add v)) ≡ named of_clock id.slot id.generation → All (Spares id) ds
     → Fresh (after_all (after (after_all fresh_station cs) (clock (command.Add v))) ds) id
 reached_fresh cs v id ds a s =
     new_fresh _ id (fresh_kept (after (after_all fresh_station cs) (clock (command.Add v))) id ds (add_fresh (after_all fresh_station cs) (reached_sixteen cs) v id a) s)

@@ -24,7 +24,7 @@ use Rattle.commands.specs.declared.modulator_command.ModulatorCommand.{Modulator
 use Rattle.commands.specs.declared.modulator_command.ModulatorCommand.TheVariants as modulators
 use Rattle.station.specs.Stations.{fresh_station}
 use Rattle.station.specs.declared.Station.{Station}
-use Rattle.laws.specs.Calls.{Call, clock, modulator, frame, after_all, Kind, ofClock, ofModulator, lives, standing}
+use Rattle.laws.specs.Calls.{Call, clock, modulator, frame, after_all, Kind, of_clock, of_modulator, lives, standing}
 use Rattle.laws.proofs.Issued.{issued_gone, gone_issued, never_unissued, unissued_never}
 use Rattle.laws.proofs.lemmas.Sizes.{Sixteen, SixteenSlots, run_sixteen, reached_sixteen, run_slots, reached_slots}
 use Rattle.demands.specs.Conditions.{ungiven, gone_in, never_in, is_tweener, is_lfo, other_kind, by_clock, by_modulator, by_kind, of_clocks, of_modulators, conditions_of}
@@ -78,8 +78,8 @@ none_named p q = record {
 }
 
 module _ (st : Station) (t : Tables st) where
-  of_clock : (id : ClockId) (f : Faults) → Tells (by_clock st id f) st (any_of ofClock id.slot id.generation)
-  of_clock id f = record {
+  of_clock_lem : (id : ClockId) (f : Faults) → Tells (by_clock st id f) st (any_of of_clock id.slot id.generation)
+  of_clock_lem id f = record {
     gone = gone_is st.clocks.keys id.slot id.generation t.clocks.most;
     never = never_is st.clocks.keys id.slot id.generation t.clocks.most;
   }
@@ -88,8 +88,8 @@ module _ (st : Station) (t : Tables st) where
     abbrev ks : List Key
     ks = st.modulators.keys
 
-    of_modulator : (f : Faults) → Tells (by_modulator st id f) st (any_of ofModulator id.slot id.generation)
-    of_modulator f = record { gone = gone_is ks id.slot id.generation t.modulators.most; never = never_is ks id.slot id.generation t.modulators.most }
+    of_modulator_lem : (f : Faults) → Tells (by_modulator st id f) st (any_of of_modulator id.slot id.generation)
+    of_modulator_lem f = record { gone = gone_is ks id.slot id.generation t.modulators.most; never = never_is ks id.slot id.generation t.modulators.most }
 
     of_kind : (k : Modulator → Bool) (f : Faults) → Tells (by_kind k st id f) st (kind_of k id.slot id.generation)
     of_kind k f = record {
@@ -98,7 +98,7 @@ module _ (st : Station) (t : Tables st) where
     }
       where
         Never : Type 0
-        Never = standing ofModulator st id.slot id.generation ≡ never_issued
+        Never = standing of_modulator st id.slot id.generation ≡ never_issued
 
         Other : Type 0
         Other = OtherKind k st id.slot id.generation
@@ -106,7 +106,7 @@ module _ (st : Station) (t : Tables st) where
         kind : Bool
         kind = read_at false (λ s. k s.modulator) st.modulators.slots id.slot
 
-        other : (l b : Bool) → lives ofModulator st id.slot id.generation ≡ l → kind ≡ b → (l && not b) ≡ true → Other
+        other : (l b : Bool) → lives of_modulator st id.slot id.generation ≡ l → kind ≡ b → (l && not b) ≡ true → Other
         other true false p q e = record { alive = p; other = q }
         other true true p q e = absurd (false≢true e)
         other false b p q e = absurd (false≢true e)
@@ -117,28 +117,28 @@ module _ (st : Station) (t : Tables st) where
 
         go : (n : Bool) → (n ≡ true) ↔ Never → ((n || other_kind k st id) ≡ true) ↔ (Never ⊎ Other)
         go true r = (λ h. inl (r.0 refl), λ h. refl)
-        go false r = (λ h. inr (other (lives ofModulator st id.slot id.generation) kind refl refl h), back r.1)
+        go false r = (λ h. inr (other (lives of_modulator st id.slot id.generation) kind refl refl h), back r.1)
 
   clock_tells : (c : ClockCommand) → Tells (of_clocks st c) st (clock_named c)
   clock_tells (clocks.Add v) = none_named refl refl
-  clock_tells (clocks.Remove id) = of_clock id _
-  clock_tells (clocks.Start id) = of_clock id _
-  clock_tells (clocks.Stop id) = of_clock id _
-  clock_tells (clocks.Reset id) = of_clock id _
-  clock_tells (clocks.SetSpeed id v w) = of_clock id _
-  clock_tells (clocks.Time id) = of_clock id _
-  clock_tells (clocks.Ticking id) = of_clock id _
-  clock_tells (clocks.Speed id) = of_clock id _
+  clock_tells (clocks.Remove id) = of_clock_lem id _
+  clock_tells (clocks.Start id) = of_clock_lem id _
+  clock_tells (clocks.Stop id) = of_clock_lem id _
+  clock_tells (clocks.Reset id) = of_clock_lem id _
+  clock_tells (clocks.SetSpeed id v w) = of_clock_lem id _
+  clock_tells (clocks.Time id) = of_clock_lem id _
+  clock_tells (clocks.Ticking id) = of_clock_lem id _
+  clock_tells (clocks.Speed id) = of_clock_lem id _
 
   modulator_tells : (c : ModulatorCommand) → Tells (of_modulators st c) st (modulator_named c)
   modulator_tells (modulators.AddTweener x) = none_named refl refl
   modulator_tells (modulators.AddLfo b) = none_named refl refl
-  modulator_tells (modulators.Remove id) = of_modulator id _
+  modulator_tells (modulators.Remove id) = of_modulator_lem id _
   modulator_tells (modulators.SetTweener id x w) = of_kind id is_tweener _
   modulator_tells (modulators.SetParameter id p v w) = of_kind id is_lfo _
   modulator_tells (modulators.SetWaveform id w) = of_kind id is_lfo _
   modulator_tells (modulators.SetPhase id x) = of_kind id is_lfo _
-  modulator_tells (modulators.Value id) = of_modulator id _
+  modulator_tells (modulators.Value id) = of_modulator_lem id _
 
 tells : (l : Lent) → Tables l.station → (e : Entry) → Tells (conditions_of l e) l.station (named_by e)
 tells l t (on_station (clock c)) = clock_tells l.station t c
@@ -150,7 +150,7 @@ tells l t (update_float dt) = none_named refl refl
 tells l t (update_speed dt) = none_named refl refl
 tells l t (advance_float dt w i) = none_named refl refl
 tells l t (advance_speed dt w i) = none_named refl refl
-tells l t (report id) = let c = of_clock l.station t id no_faults in record { gone = c.gone; never = c.never }
+tells l t (report id) = let c = of_clock_lem l.station t id no_faults in record { gone = c.gone; never = c.never }
 tells l t (when u) = none_named refl refl
 tells l t (read_float v) = none_named refl refl
 tells l t (read_speed v) = none_named refl refl
@@ -218,7 +218,7 @@ module _ (cs : List Call) where
   gone_over : (n : Named) → IsGone (after_all fresh_station cs) n ↔ OursOver cs n
   gone_over no_id = (λ x. x, λ x. x)
   gone_over (any_of k i g) = over k i g
-  gone_over (kind_of f i g) = over ofModulator i g
+  gone_over (kind_of f i g) = over of_modulator i g
 
   never_ours : (n : Named) → IsNever (after_all fresh_station cs) n ↔ NotOurs cs n
   never_ours no_id = (λ x. x, λ x. x)
@@ -226,11 +226,11 @@ module _ (cs : List Call) where
   never_ours (kind_of f i g) = (λ x. to x, λ x. from x)
     where
       to : IsNever (after_all fresh_station cs) (kind_of f i g) → NotOurs cs (kind_of f i g)
-      to (inl e) = inl (never_unissued ofModulator i g cs e)
+      to (inl e) = inl (never_unissued of_modulator i g cs e)
       to (inr o) = inr o
 
       from : NotOurs cs (kind_of f i g) → IsNever (after_all fresh_station cs) (kind_of f i g)
-      from (inl x) = inl (unissued_never ofModulator i g cs x)
+      from (inl x) = inl (unissued_never of_modulator i g cs x)
       from (inr o) = inr o
 
   -- A station's log, read back: cs are all calls that it has had, and e is made on it then. 7 is answered, if and only

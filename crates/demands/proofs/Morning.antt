@@ -35,7 +35,7 @@ use Rattle.commands.specs.declared.modulator_command.ModulatorCommand.TheVariant
 use Rattle.station.specs.Stations.{fresh_station, info_in}
 use Rattle.station.specs.declared.Station.{Station}
 use Rattle.report.specs.Reports.{into_buffer, report_text, report_of}
-use Rattle.laws.specs.Calls.{Call, clock, modulator, after, after_all, Kind, ofClock, ofModulator, keys_of, lives, standing, call_number, entry, clock_target, target_of, Touches}
+use Rattle.laws.specs.Calls.{Call, clock, modulator, after, after_all, Kind, of_clock, of_modulator, keys_of, lives, standing, call_number, entry, clock_target, target_of, Touches}
 use Rattle.laws.proofs.Apart.{two_slots, apart}
 use Rattle.laws.proofs.Issued.{gone_stays}
 use Rattle.laws.proofs.lemmas.Entries.{Holds, holds_read, lives_used, stays_held, Names, names_of, names_where, names_read}
@@ -69,11 +69,11 @@ modulator_id : (a b : ModulatorId) → a.slot ≡ b.slot → a.generation ≡ b.
 modulator_id a b p q = id_of_lem (λ i g. record { slot = i; generation = g }) p q
 
 module _ (st : Station) where
-  pub two_clocks : (a b : ClockId) → lives ofClock st a.slot a.generation ≡ true → lives ofClock st b.slot b.generation ≡ true → a.slot ≡ b.slot → a ≡ b
-  two_clocks a b l m p = clock_id a b p (one_id ofClock st b.slot a.generation b.generation (rw p at l) m)
+  pub two_clocks : (a b : ClockId) → lives of_clock st a.slot a.generation ≡ true → lives of_clock st b.slot b.generation ≡ true → a.slot ≡ b.slot → a ≡ b
+  two_clocks a b l m p = clock_id a b p (one_id of_clock st b.slot a.generation b.generation (rw p at l) m)
 
-  pub two_modulators : (a b : ModulatorId) → lives ofModulator st a.slot a.generation ≡ true → lives ofModulator st b.slot b.generation ≡ true → a.slot ≡ b.slot → a ≡ b
-  two_modulators a b l m p = modulator_id a b p (one_id ofModulator st b.slot a.generation b.generation (rw p at l) m)
+  pub two_modulators : (a b : ModulatorId) → lives of_modulator st a.slot a.generation ≡ true → lives of_modulator st b.slot b.generation ≡ true → a.slot ≡ b.slot → a ≡ b
+  two_modulators a b l m p = modulator_id a b p (one_id of_modulator st b.slot a.generation b.generation (rw p at l) m)
 
 -- ---- what is done with one id leaves the other clocks
 
@@ -120,18 +120,18 @@ module _ (id : ClockId) (c : Clock) where
 
 module _ (st : Station) (b : ClockId) (c : Clock) (is : clock_in st b ≡ accepted c) where
   -- every call that does not act on it: adds, reads and calls on modulators too, accepted or refused
-  pub not_acted_on : (x : Call) → (Touches (target_of x) ofClock b.slot b.generation → ⊥) → Same st (after st x) b
+  pub not_acted_on : (x : Call) → (Touches (target_of x) of_clock b.slot b.generation → ⊥) → Same st (after st x) b
   not_acted_on x o =
       let n = names_of st.clocks b c is in
       same_clock b c st (after st x) n (record {
-        lives = (apart ofClock st x b.slot b.generation o n.lives).alive;
-        holds = stays_held ofClock st b.slot b.generation n.lives x o c n.holds;
+        lives = (apart of_clock st x b.slot b.generation o n.lives).alive;
+        holds = stays_held of_clock st b.slot b.generation n.lives x o c n.holds;
       })
 
   -- A call on another id, living or dead: start, stop, reset, set the speed, remove: RULES, apart. It speaks of the
   -- moment of the call. A clock whose speed waits for another clock is touched later, in a frame, which gives every
   -- clock its turn and in which a later slot may see an earlier one.
-  pub others_stay : (a : ClockId) → (a ≡ b → ⊥) → (x : ClockCommand) → clock_target x ≡ entry ofClock a.slot a.generation → Same st (after st (clock x)) b
+  pub others_stay : (a : ClockId) → (a ≡ b → ⊥) → (x : ClockCommand) → clock_target x ≡ entry of_clock a.slot a.generation → Same st (after st (clock x)) b
   others_stay a o x e = not_acted_on (clock x) (rw e (λ q. o (clock_id a b (cc) (cc))))
 
 -- ---- an id that died stays dead
@@ -145,13 +145,13 @@ module _ (k : Kind) (st : Station) (i g : ℕ) where
 
 -- an accepted removal is such a death
 module _ (st : Station) where
-  pub removed_clock : (id : ClockId) → call_number st (clock (clocks.Remove id)) ≡ 0 → (cs : List Call) → lives ofClock (after_all (after st (clock (clocks.Remove id))) cs) id.slot id.generation ≡ false
-  removed_clock id z cs = (run_spent ofClock (after st (clock (clocks.Remove id))) id.slot id.generation (clock_removed st id z).1 cs).dead
+  pub removed_clock : (id : ClockId) → call_number st (clock (clocks.Remove id)) ≡ 0 → (cs : List Call) → lives of_clock (after_all (after st (clock (clocks.Remove id))) cs) id.slot id.generation ≡ false
+  removed_clock id z cs = (run_spent of_clock (after st (clock (clocks.Remove id))) id.slot id.generation (clock_removed st id z).1 cs).dead
 
   pub removed_modulator :
       (id : ModulatorId) → call_number st (modulator (modulators.Remove id)) ≡ 0 → (cs : List Call)
-      → lives ofModulator (after_all (after st (modulator (modulators.Remove id))) cs) id.slot id.generation ≡ false
-  removed_modulator id z cs = (run_spent ofModulator (after st (modulator (modulators.Remove id))) id.slot id.generation (modulator_removed st id z).1 cs).dead
+      → lives of_modulator (after_all (after st (modulator (modulators.Remove id))) cs) id.slot id.generation ≡ false
+  removed_modulator id z cs = (run_spent of_modulator (after st (modulator (modulators.Remove id))) id.slot id.generation (modulator_removed st id z).1 cs).dead
 
 -- ---- and every call that names it says so
 
@@ -171,14 +171,14 @@ module _ (cs ds : List Call) where
 
     pub yesterday_gone :
         (id : ClockId) → call_number (after_all fresh_station cs) (clock (clocks.Remove id)) ≡ 0 → l.station ≡ after_all (after_all fresh_station cs) (clock (clocks.Remove id) ∷ ds)
-        → named_by e ≡ any_of ofClock id.slot id.generation → number_given l e ≡ «GONE»
-    yesterday_gone id z at n = answered_seven _ _ at n (removed_gone ofClock _ id.slot id.generation (clock_removed (after_all fresh_station cs) id z))
+        → named_by e ≡ any_of of_clock id.slot id.generation → number_given l e ≡ «GONE»
+    yesterday_gone id z at n = answered_seven _ _ at n (removed_gone of_clock _ id.slot id.generation (clock_removed (after_all fresh_station cs) id z))
 
     pub modulator_gone :
         (id : ModulatorId) → call_number (after_all fresh_station cs) (modulator (modulators.Remove id)) ≡ 0 → l.station ≡ after_all (after_all fresh_station cs) (modulator (modulators.Remove id) ∷ ds)
-        → (named_by e ≡ any_of ofModulator id.slot id.generation) ⊎ ((f : Modulator → Bool) × (named_by e ≡ kind_of f id.slot id.generation)) → number_given l e ≡ «GONE»
-    modulator_gone id z at (inl n) = answered_seven _ _ at n (removed_gone ofModulator _ id.slot id.generation (modulator_removed (after_all fresh_station cs) id z))
-    modulator_gone id z at (inr (f, n)) = answered_seven _ _ at n (removed_gone ofModulator _ id.slot id.generation (modulator_removed (after_all fresh_station cs) id z))
+        → (named_by e ≡ any_of of_modulator id.slot id.generation) ⊎ ((f : Modulator → Bool) × (named_by e ≡ kind_of f id.slot id.generation)) → number_given l e ≡ «GONE»
+    modulator_gone id z at (inl n) = answered_seven _ _ at n (removed_gone of_modulator _ id.slot id.generation (modulator_removed (after_all fresh_station cs) id z))
+    modulator_gone id z at (inr (f, n)) = answered_seven _ _ at n (removed_gone of_modulator _ id.slot id.generation (modulator_removed (after_all fresh_station cs) id z))
 
 -- nothing lives again in a slot whose generations are used up, under any generation: RULES, retired-slot
 record Retired (ks : List Key) (i : ℕ) : Type 0 where

@@ -48,7 +48,7 @@ use Rattle.station.specs.Frames.{modulator_turns, modulators_turned, clock_turns
 use Rattle.station.specs.Stations.{fresh_station, info_in}
 use Rattle.station.specs.Turns.{turn_clock, turn_modulator}
 use Rattle.station.specs.declared.Station.{Station}
-use Rattle.laws.specs.Calls.{Call, clock, modulator, frame, after, after_all, ofClock, named, told, call_number}
+use Rattle.laws.specs.Calls.{Call, clock, modulator, frame, after, after_all, of_clock, named, told, call_number}
 use Rattle.laws.specs.SoundStation.{All}
 use Rattle.demands.specs.Events.{Event, call, update, moves, advance_in, advances_of, total, sums_from, in_order, tests_of, at, first_pass, first_reach}
 use Rattle.demands.specs.Kinds.{float_kind, resting, running, course_of, progress_of}
@@ -81,7 +81,7 @@ ours : ClockId
 unfolding id_of
 ours = id_of 1 2
 
-given : told (after_all fresh_station before) (clock (command.Add pace)) ≡ named ofClock 1 2
+given : told (after_all fresh_station before) (clock (command.Add pace)) ≡ named of_clock 1 2
 unfolding before id_of pace after_all run_clock_of add_clock_of remove_of free_of lives_in standing_of find_of read_at number_of first_fault le lt eq
 given = refl
 

@@ -42,7 +42,7 @@ use Rattle.commands.specs.declared.modulator_command.ModulatorCommand.TheVariant
 use Rattle.station.specs.Frames.{Try, went, stopped, no_reports, seeing, watching, turned, clock_turn}
 use Rattle.station.specs.Stations.{info_in}
 use Rattle.station.specs.declared.Station.{Station}
-use Rattle.laws.specs.Calls.{Call, clock, modulator, frame, ofClock, ofModulator, keys_of, lives}
+use Rattle.laws.specs.Calls.{Call, clock, modulator, frame, of_clock, of_modulator, keys_of, lives}
 use Rattle.demands.specs.Entries.{Lent, Shift, add_ticks, sub_ticks, add_float, sub_float, Entry, on_station, set_float, set_speed, update_float, update_speed, advance_float, advance_speed, report, when, read_float, read_speed, start_in, make_float, make_speed, shift}
 use Rattle.demands.specs.Events.{clock_in}
 
@@ -68,20 +68,20 @@ is_lfo m = not (is_tweener m)
 
 -- a living modulator of the other kind than f tells
 abbrev pub other_kind : (Modulator → Bool) → Station → ModulatorId → Bool
-other_kind f st id = lives ofModulator st id.slot id.generation && not (read_at false (λ s. f s.modulator) st.modulators.slots id.slot)
+other_kind f st id = lives of_modulator st id.slot id.generation && not (read_at false (λ s. f s.modulator) st.modulators.slots id.slot)
 
 -- a call by the id of a clock, of a modulator, and of a modulator of the kind that k tells
 abbrev pub by_id : List Key → ℕ → ℕ → Faults → Conditions
 by_id ks i g f = of_id (gone_in ks i g) (never_in ks i g) f
 
 abbrev pub by_clock : Station → ClockId → Faults → Conditions
-by_clock st id f = by_id (keys_of ofClock st) id.slot id.generation f
+by_clock st id f = by_id (keys_of of_clock st) id.slot id.generation f
 
 abbrev pub by_modulator : Station → ModulatorId → Faults → Conditions
-by_modulator st id f = by_id (keys_of ofModulator st) id.slot id.generation f
+by_modulator st id f = by_id (keys_of of_modulator st) id.slot id.generation f
 
 abbrev pub by_kind : (Modulator → Bool) → Station → ModulatorId → Faults → Conditions
-by_kind k st id f = of_id (gone_in (keys_of ofModulator st) id.slot id.generation) (never_in (keys_of ofModulator st) id.slot id.generation || other_kind k st id) f
+by_kind k st id f = of_id (gone_in (keys_of of_modulator st) id.slot id.generation) (never_in (keys_of of_modulator st) id.slot id.generation || other_kind k st id) f
 
 -- ---- NO_ROOM, of an add: RULES, no-room
 
@@ -139,7 +139,7 @@ set_faults_on (accepted c) v w = speeds.set_faults c.speed v w
 set_faults_on (refused n) v w = both_faults (speed_value_faults v) (tween_faults w)
 
 abbrev pub of_clocks : Station → ClockCommand → Conditions
-of_clocks st (clocks.Add v) = of_add (speed_value_faults v) (keys_of ofClock st)
+of_clocks st (clocks.Add v) = of_add (speed_value_faults v) (keys_of of_clock st)
 of_clocks st (clocks.Remove id) = by_clock st id no_faults
 of_clocks st (clocks.Start id) = by_clock st id no_faults
 of_clocks st (clocks.Stop id) = by_clock st id no_faults
@@ -150,8 +150,8 @@ of_clocks st (clocks.Ticking id) = by_clock st id no_faults
 of_clocks st (clocks.Speed id) = by_clock st id no_faults
 
 abbrev pub of_modulators : Station → ModulatorCommand → Conditions
-of_modulators st (modulators.AddTweener x) = of_add (float_faults x) (keys_of ofModulator st)
-of_modulators st (modulators.AddLfo b) = of_add (builder_faults b) (keys_of ofModulator st)
+of_modulators st (modulators.AddTweener x) = of_add (float_faults x) (keys_of of_modulator st)
+of_modulators st (modulators.AddLfo b) = of_add (builder_faults b) (keys_of of_modulator st)
 of_modulators st (modulators.Remove id) = by_modulator st id no_faults
 of_modulators st (modulators.SetTweener id x w) = by_kind is_tweener st id (tweener_faults x w)
 of_modulators st (modulators.SetParameter id p v w) = by_kind is_lfo st id (both_faults (float_value_faults v) (tween_faults w))
@@ -169,7 +169,7 @@ of_call st (frame dt) = of_frame st dt
 
 -- BUFFER: RULES, short-buffer
 abbrev pub of_report : Station → ClockId → List ℕ → Conditions
-of_report st id out = judge.of_report (gone_in (keys_of ofClock st) id.slot id.generation) (never_in (keys_of ofClock st) id.slot id.generation) (ltb (length out) 96)
+of_report st id out = judge.of_report (gone_in (keys_of of_clock st) id.slot id.generation) (never_in (keys_of of_clock st) id.slot id.generation) (ltb (length out) 96)
 
 -- ---- a time that is moved
 

@@ -10,7 +10,7 @@ use Rattle.commands.specs.declared.modulator_command.ModulatorCommand.{Modulator
 use Rattle.commands.specs.declared.modulator_command.ModulatorCommand.TheVariants as modulators
 use Rattle.station.specs.Stations.{fresh_station}
 use Rattle.station.specs.declared.Station.{Station}
-use Rattle.laws.specs.Calls.{Call, clock, modulator, frame, after_all, Kind, ofClock, ofModulator, lives, standing, Issued}
+use Rattle.laws.specs.Calls.{Call, clock, modulator, frame, after_all, Kind, of_clock, of_modulator, lives, standing, Issued}
 use Rattle.demands.specs.Conditions.{is_tweener, is_lfo}
 use Rattle.demands.specs.Entries.{Entry, on_station, set_float, set_speed, update_float, update_speed, advance_float, advance_speed, report, when, read_float, read_speed, start_in, make_float, make_speed, shift}
 
@@ -24,24 +24,24 @@ pub data Named : Type 0 where
 
 abbrev pub clock_named : ClockCommand → Named
 clock_named (clocks.Add v) = no_id
-clock_named (clocks.Remove id) = any_of ofClock id.slot id.generation
-clock_named (clocks.Start id) = any_of ofClock id.slot id.generation
-clock_named (clocks.Stop id) = any_of ofClock id.slot id.generation
-clock_named (clocks.Reset id) = any_of ofClock id.slot id.generation
-clock_named (clocks.SetSpeed id v w) = any_of ofClock id.slot id.generation
-clock_named (clocks.Time id) = any_of ofClock id.slot id.generation
-clock_named (clocks.Ticking id) = any_of ofClock id.slot id.generation
-clock_named (clocks.Speed id) = any_of ofClock id.slot id.generation
+clock_named (clocks.Remove id) = any_of of_clock id.slot id.generation
+clock_named (clocks.Start id) = any_of of_clock id.slot id.generation
+clock_named (clocks.Stop id) = any_of of_clock id.slot id.generation
+clock_named (clocks.Reset id) = any_of of_clock id.slot id.generation
+clock_named (clocks.SetSpeed id v w) = any_of of_clock id.slot id.generation
+clock_named (clocks.Time id) = any_of of_clock id.slot id.generation
+clock_named (clocks.Ticking id) = any_of of_clock id.slot id.generation
+clock_named (clocks.Speed id) = any_of of_clock id.slot id.generation
 
 abbrev pub modulator_named : ModulatorCommand → Named
 modulator_named (modulators.AddTweener x) = no_id
 modulator_named (modulators.AddLfo b) = no_id
-modulator_named (modulators.Remove id) = any_of ofModulator id.slot id.generation
+modulator_named (modulators.Remove id) = any_of of_modulator id.slot id.generation
 modulator_named (modulators.SetTweener id x w) = kind_of is_tweener id.slot id.generation
 modulator_named (modulators.SetParameter id p v w) = kind_of is_lfo id.slot id.generation
 modulator_named (modulators.SetWaveform id w) = kind_of is_lfo id.slot id.generation
 modulator_named (modulators.SetPhase id x) = kind_of is_lfo id.slot id.generation
-modulator_named (modulators.Value id) = any_of ofModulator id.slot id.generation
+modulator_named (modulators.Value id) = any_of of_modulator id.slot id.generation
 
 -- the id that a call acts on or reads; those inside a value or a start are not looked up so: RULES, free-ids
 abbrev pub named_by : Entry → Named
@@ -54,7 +54,7 @@ named_by (update_float dt) = no_id
 named_by (update_speed dt) = no_id
 named_by (advance_float dt w i) = no_id
 named_by (advance_speed dt w i) = no_id
-named_by (report id) = any_of ofClock id.slot id.generation
+named_by (report id) = any_of of_clock id.slot id.generation
 named_by (when t) = no_id
 named_by (read_float v) = no_id
 named_by (read_speed v) = no_id
@@ -67,18 +67,18 @@ named_by (shift t s) = no_id
 
 -- a living modulator, and not of the kind that f tells
 pub record OtherKind (f : Modulator → Bool) (st : Station) (i g : ℕ) : Type 0 where
-  pub alive : lives ofModulator st i g ≡ true
+  pub alive : lives of_modulator st i g ≡ true
   pub other : read_at false (λ s. f s.modulator) st.modulators.slots i ≡ false
 
 abbrev pub IsGone : Station → Named → Type 0
 IsGone st no_id = ⊥
 IsGone st (any_of k i g) = standing k st i g ≡ gone
-IsGone st (kind_of f i g) = standing ofModulator st i g ≡ gone
+IsGone st (kind_of f i g) = standing of_modulator st i g ≡ gone
 
 abbrev pub IsNever : Station → Named → Type 0
 IsNever st no_id = ⊥
 IsNever st (any_of k i g) = standing k st i g ≡ never_issued
-IsNever st (kind_of f i g) = (standing ofModulator st i g ≡ never_issued) ⊎ OtherKind f st i g
+IsNever st (kind_of f i g) = (standing of_modulator st i g ≡ never_issued) ⊎ OtherKind f st i g
 
 -- ---- and by what the station has answered, cs being all its calls since it was fresh
 
@@ -90,10 +90,10 @@ pub record Over (k : Kind) (cs : List Call) (i g : ℕ) : Type 0 where
 abbrev pub OursOver : List Call → Named → Type 0
 OursOver cs no_id = ⊥
 OursOver cs (any_of k i g) = Over k cs i g
-OursOver cs (kind_of f i g) = Over ofModulator cs i g
+OursOver cs (kind_of f i g) = Over of_modulator cs i g
 
 -- not ours: no call gave it out. Of a call for one kind of modulator, also the id of one of the other kind that lives
 abbrev pub NotOurs : List Call → Named → Type 0
 NotOurs cs no_id = ⊥
 NotOurs cs (any_of k i g) = Issued k i g fresh_station cs → ⊥
-NotOurs cs (kind_of f i g) = (Issued ofModulator i g fresh_station cs → ⊥) ⊎ OtherKind f (after_all fresh_station cs) i g
+NotOurs cs (kind_of f i g) = (Issued of_modulator i g fresh_station cs → ⊥) ⊎ OtherKind f (after_all fresh_station cs) i g

@@ -1,6 +1,8 @@
 // Text put into a buffer that the caller lends: bytes, and numbers as digits. Each function puts its text
 // from a place on, and answers the place behind it; a text of several pieces is put piece by piece, and a
 // piece that does not fit is left out. No function has a `requires`: each takes any buffer and any place.
+#![tactic(auto)]
+
 ghost use Rattle.std.specs.Prelude.{◌≡◌, [], ◌∷◌};
 ghost use Rattle.digits.specs.Digits.{number_text, flag_text, float_text};
 ghost use Rattle.digits.specs.Puts.{place, put_of, put_all, line_end};

@@ -1,5 +1,7 @@
 // The grammar of docs/BENCH.md: each function reads one thing at a place of a line, and answers it with
 // the place behind it. No function has a `requires`: each takes any bytes and any place.
+#![tactic(auto)]
+
 ghost use Rattle.std.specs.Prelude.{◌≡◌};
 ghost use Rattle.text.specs.Words.{run};
 ghost use Rattle.grammar.specs.Grammar.{named, ended_at, float_at, number_at, decimal32_of, power_at, no_colon, id_in, id_at, speed_at, ease_at, time_at, clock_time_at, delay_at, start_at, float_map_at, speed_map_at, float_value_at, wave_at};
@@ -12,81 +14,81 @@ use values::clock_speed::ClockSpeed;
 use values::value::{FloatMapping, FloatValue, ModulatorId, SpeedMapping};
 use waveform::Waveform;
 
-#[derive(Drop)]
+#[derive(Clone, Copy)]
 pub enum FloatAt {
     Is(f64, usize),
     No,
 }
 
-#[derive(Drop)]
+#[derive(Clone, Copy)]
 pub enum NumberAt {
     Is(u64, usize),
     No,
 }
 
 // A number of up to 32 bits.
-#[derive(Drop)]
+#[derive(Clone, Copy)]
 enum Number32 {
     Is(u32),
     No,
 }
 
-#[derive(Drop)]
+#[derive(Clone, Copy)]
 enum PowerAt {
     Is(u32, usize),
     No,
 }
 
 // Both kinds of id are written alike.
-#[derive(Drop)]
+#[derive(Clone, Copy)]
 pub enum IdAt {
     Is(u32, u32, usize),
     No,
 }
 
-#[derive(Drop)]
+#[derive(Clone, Copy)]
 pub enum SpeedAt {
     Is(ClockSpeed, usize),
     No,
 }
 
-#[derive(Drop)]
+#[derive(Clone, Copy)]
 pub enum EaseAt {
     Is(Easing, usize),
     No,
 }
 
-#[derive(Drop)]
+#[derive(Clone, Copy)]
 pub enum TimeAt {
     Is(ClockTime, usize),
     No,
 }
 
-#[derive(Drop)]
+#[derive(Clone, Copy)]
 pub enum StartAt {
     Is(StartTime, usize),
     No,
 }
 
-#[derive(Drop)]
+#[derive(Clone, Copy)]
 pub enum FloatMapAt {
     Is(FloatMapping, usize),
     No,
 }
 
-#[derive(Drop)]
+#[derive(Clone, Copy)]
 pub enum SpeedMapAt {
     Is(SpeedMapping, usize),
     No,
 }
 
-#[derive(Drop)]
+#[derive(Clone, Copy)]
 pub enum FloatValueAt {
     Is(FloatValue, usize),
     No,
 }
 
-#[derive(Drop)]
+#[derive(Clone, Copy)]
 pub enum WaveAt {
     Is(Waveform, usize),
     No,

@@ -1,6 +1,8 @@
 // The keys of a table of 16 slots: which are occupied, and at which generation. Clocks have such a
 // table and modulators have one, so that the search for a slot and the lookup of an id stand once.
 
+#![tactic(auto)]
+
 ghost use Rattle.std.specs.Prelude.{◌≡◌};
 ghost use Rattle.judge.specs.Answer.{refused, number_told};
 ghost use Rattle.ids.specs.Keys.{told_room, free_of, missing_of, standing_number, found_as, find_of, placed_as, place_of, left_of};
@@ -11,14 +13,14 @@ use judge::{GONE, NEVER_ISSUED, NO_ROOM};
 const LAST: u32 = 4294967295;
 
 // `generation` is the last one given, and 0 where none was.
-#[derive(Drop)]
+#[derive(Clone, Copy)]
 pub struct Key {
     pub used: bool,
     pub generation: u32,
 }
 
 // The slot to take and the generation to give it, or the number that an add is refused with.
-#[derive(Drop)]
+#[derive(Clone, Copy)]
 pub enum Room {
     At(usize, u32),
     Refused(u32),
@@ -26,14 +28,14 @@ pub enum Room {
 
 // The slot where an id lives, and 0; or slot 0, and the number that a call on the id is refused with, GONE or
 // NEVER_ISSUED. So there is always a slot to read, and what was read can be stored back.
-#[derive(Drop)]
+#[derive(Clone, Copy)]
 pub struct Found {
     pub refused: u32,
     pub slot: usize,
 }
 
 // Where an add goes: the slot, its key then, and 0; or slot 0, its key as it is, and the number of the refusal.
-#[derive(Drop)]
+#[derive(Clone, Copy)]
 pub struct Placed {
     pub refused: u32,
     pub slot: usize,

@@ -14,7 +14,7 @@ use values::value::{
 };
 
 // A key and what is seen for each slot, of clocks and of modulators.
-#[derive(Drop)]
+#[derive(Clone, Copy)]
 pub struct Info {
     pub clock_keys: [Key; 16],
     pub clocks: [ClockInfo; 16],
@@ -22,19 +22,19 @@ pub struct Info {
     pub values: [f64; 16],
 }
 
-#[derive(Drop)]
+#[derive(Clone, Copy)]
 pub enum Whened {
     Is(When),
     Refused(u32),
 }
 
-#[derive(Drop)]
+#[derive(Clone, Copy)]
 pub enum FloatRead {
     Is(RawFloat),
     Refused(u32),
 }
 
-#[derive(Drop)]
+#[derive(Clone, Copy)]
 pub enum SpeedRead {
     Is(RawSpeed),
     Refused(u32),

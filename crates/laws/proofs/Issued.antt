@@ -12,7 +12,7 @@ use Rattle.ids.specs.declared.Key.{Key}
 use Rattle.ids.proofs.Standings as standings
 use Rattle.station.specs.Stations.{fresh_station}
 use Rattle.station.specs.declared.Station.{Station}
-use Rattle.laws.specs.Calls.{Call, after, after_all, Kind, ofClock, ofModulator, keys_of, lives, standing, Told, named, told, Issued, Target}
+use Rattle.laws.specs.Calls.{Call, after, after_all, Kind, of_clock, of_modulator, keys_of, lives, standing, Told, named, told, Issued, Target}
 use Rattle.laws.proofs.Lives.{took, run_later, run_numbered}
 use Rattle.laws.proofs.lemmas.Deeds.{Deed, leaves, changes, removes, adds, turns, deed}
 
@@ -79,8 +79,8 @@ module _ (k : Kind) (i g : ℕ) where
   fresh_ungiven = go k
     where
       go : (k : Kind) → GivenOut (keys_of k fresh_station) i g → ⊥
-      go ofClock = standings.start_ungiven 16 i g
-      go ofModulator = standings.start_ungiven 16 i g
+      go of_clock = standings.start_ungiven 16 i g
+      go of_modulator = standings.start_ungiven 16 i g
 
   module _ (cs : List Call) where
     by_run : GivenOut (keys_of k (after_all fresh_station cs)) i g → Issued k i g fresh_station cs

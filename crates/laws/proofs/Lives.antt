@@ -29,7 +29,7 @@ use Rattle.commands.specs.declared.clock_command.ClockCommand.TheVariants as clo
 use Rattle.commands.specs.declared.modulator_command.ModulatorCommand.TheVariants as modulatorCommand
 use Rattle.station.specs.Stations.{fresh_station}
 use Rattle.station.specs.declared.Station.{Station}
-use Rattle.laws.specs.Calls.{Call, clock, modulator, frame, after, after_all, Kind, ofClock, ofModulator, keys_of, lives, Told, named, told, call_number, Target, all}
+use Rattle.laws.specs.Calls.{Call, clock, modulator, frame, after, after_all, Kind, of_clock, of_modulator, keys_of, lives, Told, named, told, call_number, Target, all}
 use Rattle.laws.proofs.Refusals.{told_number}
 use Rattle.laws.proofs.lemmas.Deeds.{Deed, leaves, changes, removes, adds, turns, deed, read_case}
 
@@ -91,7 +91,7 @@ module _ (k : Kind) (st : Station) where
 module _ (st : Station) where
   pub clock_removed :
       (id : ClockId) → call_number st (clock (clockCommand.Remove id)) ≡ 0
-      → (lives ofClock st id.slot id.generation ≡ true) × Spent (keys_of ofClock (after st (clock (clockCommand.Remove id)))) id.slot id.generation
+      → (lives of_clock st id.slot id.generation ≡ true) × Spent (keys_of of_clock (after st (clock (clockCommand.Remove id)))) id.slot id.generation
   unfolding run_clock_of clocks.remove_of
   clock_removed id =
       found_case st.clocks.keys id.slot id.generation (λ w. Ended (on_found clocks.clock_table st.clocks w (λ i c. freed clocks.clock_table st.clocks i id.generation)))
@@ -101,14 +101,14 @@ module _ (st : Station) where
       st.clocks.clocks id.slot)
     where
       Ended : ClockDone → Type 0
-      Ended r = number_told (clockRuns.done_as r).answer ≡ 0 → (lives ofClock st id.slot id.generation ≡ true) × Spent r.table.keys id.slot id.generation
+      Ended r = number_told (clockRuns.done_as r).answer ≡ 0 → (lives of_clock st id.slot id.generation ≡ true) × Spent r.table.keys id.slot id.generation
 
       refused : (n : ℕ) → (n ≡ 0 → ⊥) → Ended (refused_call clocks.clock_table st.clocks n)
       refused n y z = absurd (y (sym (told_number n) ∙ z))
 
   pub modulator_removed :
       (id : ModulatorId) → call_number st (modulator (modulatorCommand.Remove id)) ≡ 0
-      → (lives ofModulator st id.slot id.generation ≡ true) × Spent (keys_of ofModulator (after st (modulator (modulatorCommand.Remove id)))) id.slot id.generation
+      → (lives of_modulator st id.slot id.generation ≡ true) × Spent (keys_of of_modulator (after st (modulator (modulatorCommand.Remove id)))) id.slot id.generation
   unfolding run_modulator_of modulators.remove_of
   modulator_removed id =
       found_case st.modulators.keys id.slot id.generation
@@ -118,7 +118,7 @@ module _ (st : Station) where
       st.modulators.slots id.slot)
     where
       Ended : ModulatorDone → Type 0
-      Ended r = number_told (modulatorRuns.done_as r).answer ≡ 0 → (lives ofModulator st id.slot id.generation ≡ true) × Spent r.table.keys id.slot id.generation
+      Ended r = number_told (modulatorRuns.done_as r).answer ≡ 0 → (lives of_modulator st id.slot id.generation ≡ true) × Spent r.table.keys id.slot id.generation
 
       refused : (n : ℕ) → (n ≡ 0 → ⊥) → Ended (refused_call modulators.modulator_table st.modulators n)
       refused n y z = absurd (y (sym (told_number n) ∙ z))
@@ -153,8 +153,8 @@ module _ (k : Kind) (st : Station) where
 -- ---- from the beginning
 
 fresh_numbered : (k : Kind) → Numbered (keys_of k fresh_station)
-fresh_numbered ofClock = names.start_numbered 16
-fresh_numbered ofModulator = names.start_numbered 16
+fresh_numbered of_clock = names.start_numbered 16
+fresh_numbered of_modulator = names.start_numbered 16
 
 module _ (k : Kind) (cs : List Call) where
   pub run_numbered : Numbered (keys_of k (after_all fresh_station cs))

@@ -40,7 +40,7 @@ use Rattle.modulator_table.specs.ModulatorTables as modulators
 use Rattle.modulator_table.specs.declared.Modulator.TheVariants.{OfTweener, OfLfo}
 use Rattle.modulator_table.specs.declared.Modulators.{Modulators}
 use Rattle.modulator_table.specs.declared.Slot.{Slot}
-use Rattle.commands.specs.Answers.{byNumber}
+use Rattle.commands.specs.Answers.{by_number}
 use Rattle.commands.specs.ClockCommands.{run_clock_of}
 use Rattle.commands.specs.ModulatorCommands.{run_modulator_of}
 use Rattle.commands.specs.declared.clock_command.ClockCommand.{ClockCommand}
@@ -49,7 +49,7 @@ use Rattle.commands.specs.declared.modulator_command.ModulatorCommand.{Modulator
 use Rattle.commands.specs.declared.modulator_command.ModulatorCommand.TheVariants as modulatorCommand
 use Rattle.station.specs.Frames.{frame_of}
 use Rattle.station.specs.declared.Station.{Station}
-use Rattle.laws.specs.Calls.{Call, clock, modulator, frame, after, Kind, ofClock, ofModulator, keys_of, entries_of, Told, refusal, done, told, call_number, Target}
+use Rattle.laws.specs.Calls.{Call, clock, modulator, frame, after, Kind, of_clock, of_modulator, keys_of, entries_of, Told, refusal, done, told, call_number, Target}
 use Rattle.laws.proofs.lemmas.Deeds.{read_case, Deed, leaves, changes, removes, adds, turns, deed}
 
 -- ---- calls on a station
@@ -64,7 +64,7 @@ unmoved (adds i g x f) n e = let z : ◌≡◌ {A = ℕ} 0 1 = cc in absurd (ome
 unmoved (turns fs) n e = let z : ◌≡◌ {A = ℕ} 0 1 = cc in absurd (omega arith)
 
 same_station : (s t : Station) → ((k : Kind) → (keys_of k s ≡ keys_of k t) × (entries_of k s ≡ entries_of k t)) → s ≡ t
-same_station s t h = go s.clocks.keys s.clocks.clocks s.modulators.keys s.modulators.slots (h ofClock).0 (h ofClock).1 (h ofModulator).0 (h ofModulator).1
+same_station s t h = go s.clocks.keys s.clocks.clocks s.modulators.keys s.modulators.slots (h of_clock).0 (h of_clock).1 (h of_modulator).0 (h of_modulator).1
   where
     go :
         (ks : List Key) (cs : List Clock) (ls : List Key) (ss : List Slot) → ks ≡ t.clocks.keys → cs ≡ t.clocks.clocks → ls ≡ t.modulators.keys
@@ -97,7 +97,7 @@ numbered_decided n x = go (eqb n 0) (eqb-false n 0)
     go false h = h refl
 
 -- a call that is done or refused by a number tells that number
-pub told_number : (n : ℕ) → number_told (byNumber n) ≡ n
+pub told_number : (n : ℕ) → number_told (by_number n) ≡ n
 told_number n = go (eqb n 0) (eqb-true n 0)
   where
     go : (b : Bool) → (b ≡ true → n ≡ 0) → number_told (cond b done (refusal n)) ≡ n

@@ -20,11 +20,11 @@ pub use Rattle.run.specs.Runs.{after, told}
 unfoldable pub use Rattle.run.specs.Runs.{after_all}
 -- ---- the two tables
 
-pub use Rattle.commands.specs.Answers.{Kind, ofClock, ofModulator}
+pub use Rattle.commands.specs.Answers.{Kind, of_clock, of_modulator}
 
 abbrev pub keys_of : Kind → Station → List Key
-keys_of ofClock st = st.clocks.keys
-keys_of ofModulator st = st.modulators.keys
+keys_of of_clock st = st.clocks.keys
+keys_of of_modulator st = st.modulators.keys
 
 abbrev pub lives : Kind → Station → ℕ → ℕ → Bool
 lives k st i g = lives_in (keys_of k st) i g
@@ -35,12 +35,12 @@ standing k st i g = standing_of (keys_of k st) i g
 
 -- what a slot holds
 abbrev pub Entry : Kind → Type 0
-Entry ofClock = Clock
-Entry ofModulator = Slot
+Entry of_clock = Clock
+Entry of_modulator = Slot
 
 abbrev pub entries_of : (k : Kind) → Station → List (Entry k)
-entries_of ofClock st = st.clocks.clocks
-entries_of ofModulator st = st.modulators.slots
+entries_of of_clock st = st.clocks.clocks
+entries_of of_modulator st = st.modulators.slots
 
 -- ---- answers
 
@@ -76,11 +76,11 @@ pub data Target : Type 0 where
 
 abbrev pub clock_target : ClockCommand → Target
 clock_target (clocks.Add v) = none
-clock_target (clocks.Remove id) = entry ofClock id.slot id.generation
-clock_target (clocks.Start id) = entry ofClock id.slot id.generation
-clock_target (clocks.Stop id) = entry ofClock id.slot id.generation
-clock_target (clocks.Reset id) = entry ofClock id.slot id.generation
-clock_target (clocks.SetSpeed id v w) = entry ofClock id.slot id.generation
+clock_target (clocks.Remove id) = entry of_clock id.slot id.generation
+clock_target (clocks.Start id) = entry of_clock id.slot id.generation
+clock_target (clocks.Stop id) = entry of_clock id.slot id.generation
+clock_target (clocks.Reset id) = entry of_clock id.slot id.generation
+clock_target (clocks.SetSpeed id v w) = entry of_clock id.slot id.generation
 clock_target (clocks.Time id) = none
 clock_target (clocks.Ticking id) = none
 clock_target (clocks.Speed id) = none
@@ -88,11 +88,11 @@ clock_target (clocks.Speed id) = none
 abbrev pub modulator_target : ModulatorCommand → Target
 modulator_target (modulators.AddTweener x) = none
 modulator_target (modulators.AddLfo b) = none
-modulator_target (modulators.Remove id) = entry ofModulator id.slot id.generation
-modulator_target (modulators.SetTweener id x w) = entry ofModulator id.slot id.generation
-modulator_target (modulators.SetParameter id p v w) = entry ofModulator id.slot id.generation
-modulator_target (modulators.SetWaveform id w) = entry ofModulator id.slot id.generation
-modulator_target (modulators.SetPhase id x) = entry ofModulator id.slot id.generation
+modulator_target (modulators.Remove id) = entry of_modulator id.slot id.generation
+modulator_target (modulators.SetTweener id x w) = entry of_modulator id.slot id.generation
+modulator_target (modulators.SetParameter id p v w) = entry of_modulator id.slot id.generation
+modulator_target (modulators.SetWaveform id w) = entry of_modulator id.slot id.generation
+modulator_target (modulators.SetPhase id x) = entry of_modulator id.slot id.generation
 modulator_target (modulators.Value id) = none
 
 abbrev pub target_of : Call → Target

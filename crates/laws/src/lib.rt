@@ -2,3 +2,5 @@
 // leaves alone, and what holds of every state that calls can reach: no NaN in a speed, a value or a phase,
 // fractions in 0..1, speeds that can be read in the unit that they tween to. There is no code here: specs/ states
 // it, and proofs/ shows it.
+
+#![tactic(auto)]

@@ -8,7 +8,7 @@ use grammar::IdAt;
 use names::OneClock;
 use times::time::ClockId;
 
-#[derive(Drop)]
+#[derive(Clone, Copy)]
 pub enum ClockLine {
     Is(ClockCommand),
     No,

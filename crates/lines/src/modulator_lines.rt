@@ -9,7 +9,7 @@ use modulator::lfo::{LfoBuilder, LfoParameter};
 use names::OneModulator;
 use values::value::ModulatorId;
 
-#[derive(Drop)]
+#[derive(Clone, Copy)]
 pub enum ModulatorLine {
     Is(ModulatorCommand),
     No,

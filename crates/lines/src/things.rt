@@ -6,13 +6,13 @@ use grammar::{EaseAt, IdAt, NumberAt, SpeedAt, SpeedMapAt, StartAt};
 use times::tween::Tween;
 use values::value::{ModulatorId, SpeedValue};
 
-#[derive(Drop)]
+#[derive(Clone, Copy)]
 pub enum SpeedValueAt {
     Is(SpeedValue, usize),
     No,
 }
 
-#[derive(Drop)]
+#[derive(Clone, Copy)]
 pub enum TweenAt {
     Is(Tween, usize),
     No,

@@ -9,7 +9,7 @@ use values::value::{FloatValue, Input, float_value_faults};
 use waveform::{Waveform, wave_faults, wave_value};
 
 // What an LFO is made from. The starting phase is in radians.
-#[derive(Drop)]
+#[derive(Clone, Copy)]
 pub struct LfoBuilder {
     pub waveform: Waveform,
     pub frequency: FloatValue,
@@ -19,7 +19,7 @@ pub struct LfoBuilder {
 }
 
 // `phase` is in turns.
-#[derive(Drop)]
+#[derive(Clone, Copy)]
 pub struct Lfo {
     pub waveform: Waveform,
     pub frequency: FloatParameter,
@@ -30,7 +30,7 @@ pub struct Lfo {
 }
 
 // Which of an LFO's parameters is meant.
-#[derive(Drop)]
+#[derive(Clone, Copy)]
 pub enum LfoParameter {
     Frequency,
     Amplitude,
@@ -38,14 +38,14 @@ pub enum LfoParameter {
 }
 
 // What one parameter sees of the rest.
-#[derive(Drop)]
+#[derive(Clone, Copy)]
 pub struct Sight {
     pub when: When,
     pub input: Input,
 }
 
 // What an LFO's three parameters see.
-#[derive(Drop)]
+#[derive(Clone, Copy)]
 pub struct LfoSight {
     pub frequency: Sight,
     pub amplitude: Sight,

@@ -9,20 +9,20 @@ use times::tween::{Tween, tween_faults};
 use values::tweenable::interpolate;
 
 // A tween under way: from a value to a target.
-#[derive(Drop)]
+#[derive(Clone, Copy)]
 pub struct TweenerMove {
     pub start: f64,
     pub target: f64,
     pub course: Course,
 }
 
-#[derive(Drop)]
+#[derive(Clone, Copy)]
 pub enum TweenerState {
     Idle,
     Tweening(TweenerMove),
 }
 
-#[derive(Drop)]
+#[derive(Clone, Copy)]
 pub struct Tweener {
     pub state: TweenerState,
     pub value: f64,

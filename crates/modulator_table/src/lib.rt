@@ -1,5 +1,7 @@
 // The table of modulators, and the calls on it: by an id, or adding one. A slot holds one of two kinds.
 
+#![tactic(auto)]
+
 ghost use Rattle.std.specs.Prelude.{◌≡◌, ◌<◌};
 ghost use Rattle.judge.specs.Answer.{told_float};
 ghost use Rattle.modulator_table.specs.Sets.{is_lfo, refusal_of, tweener_by, lfo_by, modulator_by, changed_by, set_by};
@@ -17,52 +19,52 @@ use times::tween::Tween;
 use values::value::{FloatValue, ModulatorId};
 use waveform::{Waveform, wave_faults};
 
-#[derive(Drop)]
+#[derive(Clone, Copy)]
 pub enum Modulator {
     OfTweener(Tweener),
     OfLfo(Lfo),
 }
 
-#[derive(Drop)]
+#[derive(Clone, Copy)]
 pub struct Slot {
     pub modulator: Modulator,
 }
 
 // A key and a modulator for each slot. What a slot that is not used holds is not read.
-#[derive(Drop)]
+#[derive(Clone, Copy)]
 pub struct Modulators {
     pub keys: [Key; 16],
     pub slots: [Slot; 16],
 }
 
 // The table after a call, and 0 or the number of its refusal: then the table is as it was.
-#[derive(Drop)]
+#[derive(Clone, Copy)]
 pub struct ModulatorDone {
     pub refused: u32,
     pub table: Modulators,
 }
 
-#[derive(Drop)]
+#[derive(Clone, Copy)]
 pub enum ModulatorNamed {
     Is(ModulatorId),
     Refused(u32),
 }
 
-#[derive(Drop)]
+#[derive(Clone, Copy)]
 pub struct ModulatorAdded {
     pub answer: ModulatorNamed,
     pub table: Modulators,
 }
 
 // A slot as a set leaves it, and 0 or the number of the refusal: then the slot is as it was.
-#[derive(Drop)]
+#[derive(Clone, Copy)]
 struct Changed {
     refused: u32,
     slot: Slot,
 }
 
 // What a set asks of one modulator. The first is for a tweener and the others are for an LFO.
-#[derive(Drop)]
+#[derive(Clone, Copy)]
 enum Asked {
     Target(f64, Tween),
     Parameter(LfoParameter, FloatValue, Tween),

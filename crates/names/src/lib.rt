@@ -1,10 +1,12 @@
 // The names of the calls of docs/BENCH.md, and the call that each is: one table, a row for each name. A new call is
 // one row here, under its first letter, and one in specs/Names.antt.
+#![tactic(auto)]
+
 ghost use Rattle.std.specs.Prelude.{◌≡◌};
 ghost use Rattle.names.specs.Names.{row_of, call_in, call_of, rows_c, rows_d, rows_e, rows_f, rows_l, rows_m, rows_n, rows_s, rows_t, rows_v, rows_w};
 
 // The calls on one clock, by its id alone.
-#[derive(Drop)]
+#[derive(Clone, Copy)]
 pub enum OneClock {
     Drop,
     Start,
@@ -16,7 +18,7 @@ pub enum OneClock {
 }
 
 // The calls on one modulator, whose first argument is its id.
-#[derive(Drop)]
+#[derive(Clone, Copy)]
 pub enum OneModulator {
     Set,
     Freq,
@@ -29,7 +31,7 @@ pub enum OneModulator {
 }
 
 // The calls that put a table where no run comes in time.
-#[derive(Drop)]
+#[derive(Clone, Copy)]
 pub enum LimitCall {
     Preset,
     ClockGen,
@@ -37,7 +39,7 @@ pub enum LimitCall {
 }
 
 // The calls that ask the clocks and the modulators.
-#[derive(Drop)]
+#[derive(Clone, Copy)]
 pub enum QuestionCall {
     When,
     ValRaw,
@@ -46,7 +48,7 @@ pub enum QuestionCall {
 }
 
 // The calls on one of the program's parameters.
-#[derive(Drop)]
+#[derive(Clone, Copy)]
 pub enum ParameterCall {
     New,
     Set,
@@ -54,7 +56,7 @@ pub enum ParameterCall {
     Val,
 }
 
-#[derive(Drop)]
+#[derive(Clone, Copy)]
 pub enum TimeCall {
     FromU,
     FromF,
@@ -66,7 +68,7 @@ pub enum TimeCall {
 }
 
 // The arithmetic on an output.
-#[derive(Drop)]
+#[derive(Clone, Copy)]
 pub enum OutputCall {
     Add,
     Sub,
@@ -76,7 +78,7 @@ pub enum OutputCall {
     Neg,
 }
 
-#[derive(Drop)]
+#[derive(Clone, Copy)]
 pub enum DoubleCall {
     Trunc,
     Fract,
@@ -85,7 +87,7 @@ pub enum DoubleCall {
     Clamp,
 }
 
-#[derive(Drop)]
+#[derive(Clone, Copy)]
 pub enum CurveCall {
     Ease,
     Lerp,
@@ -95,7 +97,7 @@ pub enum CurveCall {
 }
 
 // The unit that a speed is read in.
-#[derive(Drop)]
+#[derive(Clone, Copy)]
 pub enum SpeedCall {
     Spt,
     Tps,
@@ -103,7 +105,7 @@ pub enum SpeedCall {
 }
 
 // Every call, in families that one function answers each; None where a word names no call.
-#[derive(Drop)]
+#[derive(Clone, Copy)]
 pub enum Call {
     New,
     Frame,

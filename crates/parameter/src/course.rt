@@ -7,14 +7,14 @@ use times::start_time::{StartTime, When, shorter};
 use times::tween::{Tween, tween_value};
 
 // A tween, and how long it has run.
-#[derive(Drop)]
+#[derive(Clone, Copy)]
 pub struct Course {
     pub tween: Tween,
     pub time: f64,
 }
 
 // A course after an update. One that ends is over.
-#[derive(Drop)]
+#[derive(Clone, Copy)]
 pub enum Stepped {
     Waits(Course),
     Goes(Course),

@@ -11,48 +11,48 @@ use values::tweenable::interpolate;
 use values::value::{FloatValue, Input, RawFloat, float_value_faults, raw_float};
 
 // A tween under way: from a value to a target.
-#[derive(Drop)]
+#[derive(Clone, Copy)]
 pub struct FloatTweening {
     pub start: f64,
     pub target: FloatValue,
     pub course: Course,
 }
 
-#[derive(Drop)]
+#[derive(Clone, Copy)]
 pub enum FloatState {
     Idle(FloatValue),
     Tweening(FloatTweening),
 }
 
 // `raw` is the present value. A stagnant parameter has nothing to update.
-#[derive(Drop)]
+#[derive(Clone, Copy)]
 pub struct FloatParameter {
     pub state: FloatState,
     pub raw: f64,
     pub stagnant: bool,
 }
 
-#[derive(Drop)]
+#[derive(Clone, Copy)]
 pub enum FloatMade {
     Is(FloatParameter),
     Refused(u32),
 }
 
 // The parameter after a set: as it was, where the set was refused. The number is 0 where it was not.
-#[derive(Drop)]
+#[derive(Clone, Copy)]
 pub struct FloatSet {
     pub refused: u32,
     pub parameter: FloatParameter,
 }
 
 // A parameter after an update, and whether its tween just finished.
-#[derive(Drop)]
+#[derive(Clone, Copy)]
 pub struct FloatUpdated {
     pub finished: bool,
     pub parameter: FloatParameter,
 }
 
-#[derive(Drop)]
+#[derive(Clone, Copy)]
 pub struct FloatAdvanced {
     pub refused: u32,
     pub finished: bool,

@@ -11,48 +11,48 @@ use values::clock_speed::{ClockSpeed, interpolate_speed, read_faults, speed_faul
 use values::value::{Input, RawSpeed, SpeedValue, raw_speed, speed_value_faults};
 
 // A tween under way: from a value to a target.
-#[derive(Drop)]
+#[derive(Clone, Copy)]
 pub struct SpeedTweening {
     pub start: ClockSpeed,
     pub target: SpeedValue,
     pub course: Course,
 }
 
-#[derive(Drop)]
+#[derive(Clone, Copy)]
 pub enum SpeedState {
     Idle(SpeedValue),
     Tweening(SpeedTweening),
 }
 
 // `raw` is the present value. A stagnant parameter has nothing to update.
-#[derive(Drop)]
+#[derive(Clone, Copy)]
 pub struct SpeedParameter {
     pub state: SpeedState,
     pub raw: ClockSpeed,
     pub stagnant: bool,
 }
 
-#[derive(Drop)]
+#[derive(Clone, Copy)]
 pub enum SpeedMade {
     Is(SpeedParameter),
     Refused(u32),
 }
 
 // The parameter after a set: as it was, where the set was refused. The number is 0 where it was not.
-#[derive(Drop)]
+#[derive(Clone, Copy)]
 pub struct SpeedSet {
     pub refused: u32,
     pub parameter: SpeedParameter,
 }
 
 // A parameter after an update, and whether its tween just finished.
-#[derive(Drop)]
+#[derive(Clone, Copy)]
 pub struct SpeedUpdated {
     pub finished: bool,
     pub parameter: SpeedParameter,
 }
 
-#[derive(Drop)]
+#[derive(Clone, Copy)]
 pub struct SpeedAdvanced {
     pub refused: u32,
     pub finished: bool,

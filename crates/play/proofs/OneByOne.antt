@@ -14,7 +14,7 @@ use Rattle.judge.specs.Answer.{Answer, accepted, refused, on_accepted}
 use Rattle.judge.specs.Judge.{decided}
 use Rattle.times.specs.declared.time.ClockId.{ClockId}
 use Rattle.clock_table.specs.ClockTables.{add_clock_of, remove_of, tick_on_of, reset_clock_of, set_speed_of}
-use Rattle.commands.specs.Answers.{ofClock, Given, done, named, byNumber}
+use Rattle.commands.specs.Answers.{of_clock, Given, done, named, by_number}
 use Rattle.commands.specs.ClockCommands.{run_clock_of}
 use Rattle.station.specs.Frames.{frame_of}
 use Rattle.station.specs.Stations.{fresh_station}
@@ -48,7 +48,7 @@ module _ (r : Record) (x : Given) (a : Answer Given) where
 
 module _ (r : Record) where
   -- a call that answers by a number
-  by_number : (m : ℕ) → Says r done (byNumber m) (number_for r (byNumber m))
+  by_number : (m : ℕ) → Says r done (by_number m) (number_for r (by_number m))
   by_number m = by (eqb m 0) refl
     where
       by : (b : Bool) → eqb m 0 ≡ b → Says r done (cond b (accepted done) (refused m)) (number_for r (cond b (accepted done) (refused m)))
@@ -56,10 +56,10 @@ module _ (r : Record) where
       by false e = record { zero = λ z. absurd (false_is (sym e ∙ eq-eqb m 0 z)); not_zero = λ z. inl refl }
 
   -- an add
-  by_id_lem : (s g : ℕ) → Says r (named ofClock r.slot r.generation) (accepted (named ofClock s g)) (is_of r s g)
+  by_id_lem : (s g : ℕ) → Says r (named of_clock r.slot r.generation) (accepted (named of_clock s g)) (is_of r s g)
   by_id_lem s g = by (eqb s r.slot) (eqb g r.generation) refl refl
     where
-      by : (b c : Bool) → eqb s r.slot ≡ b → eqb g r.generation ≡ c → Says r (named ofClock r.slot r.generation) (accepted (named ofClock s g)) (cond (b && c) 0 14)
+      by : (b c : Bool) → eqb s r.slot ≡ b → eqb g r.generation ≡ c → Says r (named of_clock r.slot r.generation) (accepted (named of_clock s g)) (cond (b && c) 0 14)
       by true true e f = record { zero = λ z. rw (eqb-true s r.slot e, eqb-true g r.generation f); not_zero = λ z. absurd (z refl) }
       by true false e f = record {
         zero = λ z. absurd (omega arith);
@@ -71,9 +71,9 @@ module _ (r : Record) where
       }
 
   abbrev id_as : ClockId → Given
-  id_as id = named ofClock id.slot id.generation
+  id_as id = named of_clock id.slot id.generation
 
-  by_add : (a : Answer ClockId) → ((n : ℕ) → on_accepted id_as a ≡ refused n → n ≡ 0 → ⊥) → Says r (named ofClock r.slot r.generation) (on_accepted id_as a) (number_for r (on_accepted id_as a))
+  by_add : (a : Answer ClockId) → ((n : ℕ) → on_accepted id_as a ≡ refused n → n ≡ 0 → ⊥) → Says r (named of_clock r.slot r.generation) (on_accepted id_as a) (number_for r (on_accepted id_as a))
   by_add (accepted id) h = by_id_lem id.slot id.generation
   by_add (refused n) h = record { zero = λ z. absurd (h n refl z); not_zero = λ z. inl refl }
 

@@ -8,7 +8,7 @@ use borrow.Author.Tests.{eq-eqb, ne_eqb, eqb-true}
 use lib.Dec.{eqb}
 use lib.Ieee.{Float}
 use Rattle.judge.specs.Answer.{Answer, accepted, refused}
-use Rattle.commands.specs.Answers.{byNumber}
+use Rattle.commands.specs.Answers.{by_number}
 use Rattle.commands.specs.ClockCommands.{run_clock_of}
 use Rattle.commands.specs.declared.clock_command.ClockCommand.{ClockCommand}
 use Rattle.clock_table.specs.declared.Clocks.{Clocks}
@@ -59,10 +59,10 @@ module _
 
 module _ (st : Station) (r : Record) {dt : Float} (is : call.Frame dt ≡ call_of r) (framed : Framed) (left : framed ≡ frame_of st dt) where
   -- a frame's number is told as an answer, and found again
-  by_number : (n : ℕ) → n ≡ number_for r (byNumber n)
+  by_number : (n : ℕ) → n ≡ number_for r (by_number n)
   by_number n = by (eqb n 0) refl
     where
-      by : (b : Bool) → eqb n 0 ≡ b → n ≡ number_for r (byNumber n)
+      by : (b : Bool) → eqb n 0 ≡ b → n ≡ number_for r (by_number n)
       by true e = rw e (eqb-true n 0 e)
       by false e = rw e
 

@@ -13,7 +13,7 @@ use Rattle.times.specs.declared.tween.Tween.{Tween}
 use Rattle.values.specs.declared.clock_speed.ClockSpeed.TheVariants.{TicksPerSecond}
 use Rattle.values.specs.declared.value.SpeedValue.{SpeedValue}
 use Rattle.values.specs.declared.value.SpeedValue.TheVariants.{Fixed}
-use Rattle.commands.specs.Answers.{ofClock, ofModulator, Given, done, named, time, flag, speed, value}
+use Rattle.commands.specs.Answers.{of_clock, of_modulator, Given, done, named, time, flag, speed, value}
 use Rattle.commands.specs.declared.clock_command.ClockCommand.TheVariants as command
 use Rattle.station.specs.declared.Station.{Station}
 use Rattle.run.specs.Runs.{told, after}
@@ -69,8 +69,8 @@ is_of r slot generation = cond (eqb slot r.slot && eqb generation r.generation) 
 abbrev pub number_for : Record → Answer Given → ℕ
 number_for r (refused n) = n
 number_for r (accepted done) = 0
-number_for r (accepted (named ofClock slot generation)) = is_of r slot generation
-number_for r (accepted (named ofModulator slot generation)) = 0
+number_for r (accepted (named of_clock slot generation)) = is_of r slot generation
+number_for r (accepted (named of_modulator slot generation)) = 0
 number_for r (accepted (time t)) = 0
 number_for r (accepted (flag b)) = 0
 number_for r (accepted (speed s)) = 0

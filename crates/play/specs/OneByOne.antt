@@ -2,7 +2,7 @@
 -- calls down: RULES, one-by-one and recorder. Assumes nothing.
 use Rattle.std.specs.Prelude.{ℕ, ◌+◌, ◌≡◌, ◌⊎◌, List, [], ◌∷◌, ◌++◌, map, length}
 use Rattle.judge.specs.Answer.{Answer, accepted, refused}
-use Rattle.commands.specs.Answers.{ofClock, Given, done, named}
+use Rattle.commands.specs.Answers.{of_clock, Given, done, named}
 use Rattle.station.specs.declared.Station.{Station}
 use Rattle.run.specs.Runs.{told, after, after_all}
 use Rattle.run.specs.declared.Call.{Call}
@@ -20,7 +20,7 @@ use Rattle.play.specs.declared.Verdict.TheVariants as verdict
 
 -- an add has to answer the record's id, and any other call that it is done
 abbrev pub awaited_by : Record → Op → Given
-awaited_by r op.Add = named ofClock r.slot r.generation
+awaited_by r op.Add = named of_clock r.slot r.generation
 awaited_by r op.Drop = done
 awaited_by r op.Start = done
 awaited_by r op.Stop = done
@@ -35,7 +35,7 @@ Accepts st r = told st (call_of r) ≡ accepted (awaited_by r r.op)
 pub record OtherId (r : Record) (a : Answer Given) (n : ℕ) : Type 0 where
   pub slot : ℕ
   pub generation : ℕ
-  pub given : a ≡ accepted (named ofClock slot generation)
+  pub given : a ≡ accepted (named of_clock slot generation)
   pub other : slot ≡ r.slot → generation ≡ r.generation → ⊥
   pub number : n ≡ 14
 

@@ -1,8 +1,10 @@
 // A recording replayed: what each record asks of a station, and all of them in their order on a fresh one, up to the
 // first refusal. RULES, replay.
+#![tactic(auto)]
+
 ghost use Rattle.std.specs.Prelude.{◌≡◌};
 ghost use Rattle.judge.specs.Numbers.{«TRACE»};
-ghost use Rattle.commands.specs.Answers.{toldAnswer};
+ghost use Rattle.commands.specs.Answers.{told_answer};
 ghost use Rattle.commands.specs.ClockCommands.{run_clock_of};
 ghost use Rattle.station.specs.Frames.{frame_of};
 ghost use Rattle.play.specs.Asked.{call_of, call_as, number_for};
@@ -26,27 +28,27 @@ use values::clock_speed::ClockSpeed;
 use values::value::SpeedValue;
 
 // Where a replay was refused: at a byte of the recording, or in a record, by its number.
-#[derive(Drop)]
+#[derive(Clone, Copy)]
 pub enum Place {
     Byte(usize),
     Record(usize),
 }
 
-#[derive(Drop)]
+#[derive(Clone, Copy)]
 pub enum Verdict {
     Accepted,
     Refused(u32, Place),
 }
 
 // Where a replay ended, and what was refused. The station is then the one from before the refused record.
-#[derive(Drop)]
+#[derive(Clone, Copy)]
 pub struct Replayed {
     pub station: Station,
     pub verdict: Verdict,
 }
 
 // What a record asks of a station. An add is a case of its own for `replay`, which says why.
-#[derive(Drop)]
+#[derive(Clone, Copy)]
 enum Asked {
     Add(SpeedValue),
     Command(ClockCommand),
@@ -54,7 +56,7 @@ enum Asked {
 }
 
 // What a command makes of the clocks, and the number that its record is given.
-#[derive(Drop)]
+#[derive(Clone, Copy)]
 struct Commanded {
     number: u32,
     clocks: Clocks,
@@ -89,7 +91,7 @@ fn call_of(r: Record) -> Asked
 
 // The call's own number, then WRONG_ID where it gave another id than the record's; 0 where the record is accepted.
 fn number_for(r: Record, answer: CallAnswer) -> u32
-    ensures { result ≡ number_for r (toldAnswer answer) }
+    ensures { result ≡ number_for r (told_answer answer) }
 {
     match answer {
         CallAnswer::Refused(n) => n,

@@ -1,11 +1,13 @@
 // A reader keeps a lent recording and its place: the form in which a caller walks a recording. Each function takes the
 // struct apart or makes it, and leaves the work to `record_at`, over the plain slice and place.
+#![tactic(auto)]
+
 ghost use Rattle.std.specs.Prelude.{◌≡◌};
 ghost use Rattle.recording.specs.Recordings.{record_at};
 
 use recording::Read;
 
-#[derive(Drop)]
+#[derive(Clone, Copy)]
 pub struct Reader<'a> {
     pub trace: &'a [u8],
     pub at: usize,

@@ -6,7 +6,7 @@ ghost use Rattle.record.specs.Fields.{same_bytes, begins, decimal_behind, hex_be
 use text::Number;
 
 // A number of 32 bits, if there is one.
-#[derive(Drop)]
+#[derive(Clone, Copy)]
 pub enum Small {
     Is(u32),
     No,

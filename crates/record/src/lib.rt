@@ -1,4 +1,6 @@
 // One line of a recording, without its LF: what it says behind what the record's earlier lines said. RULES, record.
+#![tactic(auto)]
+
 pub mod field;
 
 ghost use Rattle.std.specs.Prelude.{◌≡◌};
@@ -14,7 +16,7 @@ const GENERATION: u32 = 0xffff_ffff;
 
 const ARG: u64 = 0xffff_ffff_ffff_ffff;
 
-#[derive(Drop)]
+#[derive(Clone, Copy)]
 pub enum Op {
     Add,
     Drop,
@@ -25,7 +27,7 @@ pub enum Op {
     Frame,
 }
 
-#[derive(Drop)]
+#[derive(Clone, Copy)]
 pub struct Record {
     pub op: Op,
     pub slot: u32,
@@ -34,7 +36,7 @@ pub struct Record {
 }
 
 // Which line comes next, and what the lines before it said.
-#[derive(Drop)]
+#[derive(Clone, Copy)]
 pub enum Part {
     Op,
     Slot(Op),
@@ -43,21 +45,21 @@ pub enum Part {
 }
 
 // What a line makes of a part: the next one, the whole record, or nothing, since the line is bad.
-#[derive(Drop)]
+#[derive(Clone, Copy)]
 pub enum Judged {
     Next(Part),
     Whole(Record),
     Bad,
 }
 
-#[derive(Drop)]
+#[derive(Clone, Copy)]
 enum Named {
     Is(Op),
     No,
 }
 
 // The most that each number of a record may be.
-#[derive(Drop)]
+#[derive(Clone, Copy)]
 struct Limits {
     slot: u32,
     generation: u32,

@@ -1,4 +1,6 @@
 // A recording's records, read off a slice from a place, line by line: RULES, recording.
+#![tactic(auto)]
+
 ghost use Rattle.std.specs.Prelude.{◌≡◌};
 ghost use Rattle.recording.specs.Recordings.{record_at};
 ghost use Rattle.recording.specs.Lengths.{LineLength};
@@ -9,7 +11,7 @@ use record::{Judged, Part, Record};
 const ROOM: usize = 64;
 
 // What stands at a place of a recording: a record and the place behind it, or how the recording ends there.
-#[derive(Drop)]
+#[derive(Clone, Copy)]
 pub enum Read {
     Record(Record, usize),
     End,

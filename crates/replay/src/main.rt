@@ -1,5 +1,7 @@
 // Replays the recording on standard input, of 65,536 bytes at most, on a fresh station. Writes the reports of the
 // clocks that live at its end, in slot order; or a refusal's number alone, with its place on standard error.
+#![tactic(auto)]
+
 use judge::BUFFER;
 use play::{Place, Replayed, Verdict};
 use report::Filled;

@@ -4,7 +4,7 @@ use Rattle.ids.specs.declared.Key.{Key}
 use Rattle.clock.specs.declared.Reported.{Reported}
 use Rattle.report.specs.declared.Filled.{Filled}
 use Rattle.report.specs.declared.Filled.TheVariants as report
-use Rattle.answers.specs.Answers.{blank, idText, speedText, timeText, refusedText}
+use Rattle.answers.specs.Answers.{blank, id_text, speed_text, time_text, refused_text}
 use Rattle.digits.specs.Digits.{number_text, flag_text, float_text}
 use Rattle.commands.specs.declared.CallAnswer.{CallAnswer}
 use Rattle.commands.specs.declared.CallAnswer.TheVariants as answer
@@ -15,18 +15,18 @@ ok_text = (0x6f ∷ 0x6b ∷ []) ∷ []
 
 -- "`id ID`"
 abbrev pub id_reply : ℕ → ℕ → List (List ℕ)
-id_reply slot generation = (0x69 ∷ 0x64 ∷ blank) ∷ idText slot generation
+id_reply slot generation = (0x69 ∷ 0x64 ∷ blank) ∷ id_text slot generation
 
 -- "`ok`", "`id ID`", "`N F`", "`0` or `1`", "`SPEED`", "`F`"
 abbrev pub answer_text : CallAnswer → List (List ℕ)
 answer_text answer.Done = ok_text
 answer_text (answer.Clock i) = id_reply i.slot i.generation
 answer_text (answer.Modulator i) = id_reply i.slot i.generation
-answer_text (answer.Time t) = timeText t
+answer_text (answer.Time t) = time_text t
 answer_text (answer.Flag b) = flag_text b ∷ []
-answer_text (answer.Speed s) = speedText s
+answer_text (answer.Speed s) = speed_text s
 answer_text (answer.Value x) = float_text x ∷ []
-answer_text (answer.Refused n) = refusedText n
+answer_text (answer.Refused n) = refused_text n
 
 -- "=" and "-"
 abbrev pub equals_sign : List ℕ
@@ -56,4 +56,4 @@ shown_of b = cond (eqb b 0x0a) 0x3b b
 -- "the whole buffer", or "`refused N`, a blank, and the buffer as it is then"
 abbrev pub reported_text : Filled → List ℕ → List (List ℕ)
 reported_text (report.Written n) buffer = buffer ∷ []
-reported_text (report.Refused n) buffer = refusedText n ++ (blank ∷ buffer ∷ [])
+reported_text (report.Refused n) buffer = refused_text n ++ (blank ∷ buffer ∷ [])

@@ -1,4 +1,6 @@
 // The station's answers as whole lines of text, at the start of a buffer that the caller lends.
+#![tactic(auto)]
+
 ghost use Rattle.std.specs.Prelude.{◌≡◌, map};
 ghost use Rattle.digits.specs.Puts.{place, put_all, line_of};
 ghost use Rattle.replies.specs.Replies.{ok_text, id_reply, answer_text, tick_text, frame_text, shown_of, reported_text};

@@ -1,5 +1,7 @@
 // A clock's report, six lines of text, and the reports of all clocks, at the start of a buffer that the caller lends. A
 // refusal leaves the buffer as it was. 01, "Worked rows"; docs/RULES.md, report and reports.
+#![tactic(auto)]
+
 ghost use Rattle.std.specs.Prelude.{◌<◌, ◌≤◌, ◌≡◌, not, length};
 ghost use Rattle.judge.specs.Answer.{accepted};
 ghost use Rattle.clock.specs.OneClock.{fresh_of};
@@ -22,7 +24,7 @@ const LONGEST: usize = 96;
 const ALL: usize = 16 * LONGEST;
 
 // How many bytes were written, or the number of a refusal.
-#[derive(Drop)]
+#[derive(Clone, Copy)]
 pub enum Filled {
     Written(usize),
     Refused(u32),

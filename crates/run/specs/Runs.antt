@@ -3,7 +3,7 @@
 use Rattle.std.specs.Prelude.{List, [], ◌∷◌}
 use Rattle.judge.specs.Answer.{Answer}
 use Rattle.clock.specs.declared.Reported.{Reported}
-use Rattle.commands.specs.Answers.{Given, byNumber}
+use Rattle.commands.specs.Answers.{Given, by_number}
 use Rattle.commands.specs.ClockCommands.{run_clock_of}
 use Rattle.commands.specs.ModulatorCommands.{run_modulator_of}
 use Rattle.station.specs.Frames.{no_reports, frame_of}
@@ -21,7 +21,7 @@ after st (call.Frame dt) = (frame_of st dt).station
 abbrev pub told : Station → Call → Answer Given
 told st (call.Clock c) = (run_clock_of st.clocks c).answer
 told st (call.Modulator c) = (run_modulator_of st.modulators c).answer
-told st (call.Frame dt) = byNumber (frame_of st dt).refused
+told st (call.Frame dt) = by_number (frame_of st dt).refused
 
 -- and what each slot's clock reports, none at a command: RULES, frame-reports
 abbrev pub reports_of : Station → Call → List Reported

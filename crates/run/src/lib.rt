@@ -1,7 +1,9 @@
 // A call on the whole station: a clock's command, a modulator's command or a frame goes in, and what it answers comes
 // back beside the station. The bench drives its station through here; a replay has its own way to the same calls.
+#![tactic(auto)]
+
 ghost use Rattle.std.specs.Prelude.{◌≡◌};
-ghost use Rattle.commands.specs.Answers.{toldAnswer};
+ghost use Rattle.commands.specs.Answers.{told_answer};
 ghost use Rattle.run.specs.Runs.{told, reports_of, after};
 
 use clock::{Reported, no_report};
@@ -11,7 +13,7 @@ use commands::{CallAnswer, by_number};
 use station::Station;
 use station::frame::frame;
 
-#[derive(Drop)]
+#[derive(Clone, Copy)]
 pub enum Call {
     Clock(ClockCommand),
     Modulator(ModulatorCommand),
@@ -20,7 +22,7 @@ pub enum Call {
 
 // What a call answers, what each slot's clock reported, and the station after it. A refused call leaves the station,
 // and only a frame has clocks report.
-#[derive(Drop)]
+#[derive(Clone, Copy)]
 pub struct Ran {
     pub answer: CallAnswer,
     pub reports: [Reported; 16],
@@ -29,7 +31,7 @@ pub struct Ran {
 
 // A table is stored to once, and the station goes out by one exit: a second one would copy it again (docs/SPEED.md).
 pub fn run(st: Station, c: Call) -> Ran
-    ensures { (toldAnswer result.answer ≡ told st c) × (result.reports ≡ reports_of st c) × (result.station ≡ after st c) }
+    ensures { (told_answer result.answer ≡ told st c) × (result.reports ≡ reports_of st c) × (result.station ≡ after st c) }
 {
     let none = no_report();
     let mut reports = [none; 16];

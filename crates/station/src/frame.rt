@@ -14,7 +14,7 @@ use judge::{dt_faults, first_fault};
 use modulator_table::{Modulators, slot_value};
 
 // The station after a frame, 0 or the number of the refusal, and what the clock of each slot reported.
-#[derive(Drop)]
+#[derive(Clone, Copy)]
 pub struct Framed {
     pub refused: u32,
     pub station: Station,
@@ -22,14 +22,14 @@ pub struct Framed {
 }
 
 // The modulators after their turns, and what is seen then.
-#[derive(Drop)]
+#[derive(Clone, Copy)]
 struct ModulatorsTurned {
     table: Modulators,
     info: Info,
 }
 
 // The clocks after their turns; as they were, where one refused.
-#[derive(Drop)]
+#[derive(Clone, Copy)]
 struct ClocksTurned {
     refused: u32,
     table: Clocks,

@@ -1,4 +1,6 @@
 // The whole state. A call on a clock or on a modulator takes the table that it acts on, and no more.
+#![tactic(auto)]
+
 pub mod frame;
 pub mod turns;
 
@@ -12,20 +14,20 @@ use clock_table::{Clocks, no_clocks};
 use info::info::Info;
 use modulator_table::{Modulators, Slot, no_modulators, slot_value};
 
-#[derive(Drop)]
+#[derive(Clone, Copy)]
 pub struct Station {
     pub clocks: Clocks,
     pub modulators: Modulators,
 }
 
 // What is seen of each clock.
-#[derive(Drop)]
+#[derive(Clone, Copy)]
 struct ClockInfos {
     clocks: [ClockInfo; 16],
 }
 
 // Each modulator's value.
-#[derive(Drop)]
+#[derive(Clone, Copy)]
 struct Values {
     values: [f64; 16],
 }

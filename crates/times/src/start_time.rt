@@ -6,7 +6,7 @@ use crate::duration::nanos;
 use crate::time::{ClockTime, clock_time_faults};
 use judge::{Faults, both, dt_faults, first_fault, no_faults, span_faults};
 
-#[derive(Drop)]
+#[derive(Clone, Copy)]
 pub enum StartTime {
     Immediate,
     Delayed(u64),
@@ -14,7 +14,7 @@ pub enum StartTime {
 }
 
 // When a clock time is due: info.rs, `WhenToStart`.
-#[derive(Drop)]
+#[derive(Clone, Copy)]
 pub enum When {
     Now,
     Later,
@@ -22,13 +22,13 @@ pub enum When {
 }
 
 // A start time after an update, and whether it will never come.
-#[derive(Drop)]
+#[derive(Clone, Copy)]
 pub struct Waited {
     pub never: bool,
     pub start: StartTime,
 }
 
-#[derive(Drop)]
+#[derive(Clone, Copy)]
 pub enum StartUp {
     Is(Waited),
     Refused(u32),

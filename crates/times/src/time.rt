@@ -9,14 +9,14 @@ use judge::{
 };
 use ticks::{Counted, more_ticks};
 
-#[derive(Drop)]
+#[derive(Clone, Copy)]
 pub struct ClockId {
     pub slot: u32,
     pub generation: u32,
 }
 
 // An instant of a clock: whole ticks, and a fraction of one.
-#[derive(Drop)]
+#[derive(Clone, Copy)]
 pub struct ClockTime {
     pub clock: ClockId,
     pub ticks: u64,
@@ -24,14 +24,14 @@ pub struct ClockTime {
 }
 
 // A time, or the number of a refusal.
-#[derive(Drop)]
+#[derive(Clone, Copy)]
 pub enum Timed {
     At(ClockTime),
     Refused(u32),
 }
 
 // Times of different clocks, and a fraction that is a NaN, are unordered.
-#[derive(Drop)]
+#[derive(Clone, Copy)]
 pub enum Order {
     Less,
     Equal,
@@ -39,7 +39,7 @@ pub enum Order {
     Unordered,
 }
 
-#[derive(Drop)]
+#[derive(Clone, Copy)]
 pub enum Compared {
     Is(Order),
     Refused(u32),

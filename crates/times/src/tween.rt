@@ -7,7 +7,7 @@ use crate::duration::as_secs_f64;
 use crate::start_time::{StartTime, start_faults};
 use judge::{Faults, Floated, both, first_fault, float_faults, no_faults, span_faults};
 
-#[derive(Drop)]
+#[derive(Clone, Copy)]
 pub enum Easing {
     Linear,
     InPowi(u32),
@@ -15,7 +15,7 @@ pub enum Easing {
     InOutPowi(u32),
 }
 
-#[derive(Drop)]
+#[derive(Clone, Copy)]
 pub struct Tween {
     pub start_time: StartTime,
     pub duration: u64,

@@ -6,7 +6,7 @@ ghost use Rattle.values.specs.Speeds.{spt_of, tps_of, tpm_of, interpolate_speed_
 use crate::tweenable::interpolate;
 use judge::{Faults, Floated, both, first_fault, float_faults, no_faults};
 
-#[derive(Drop)]
+#[derive(Clone, Copy)]
 pub enum ClockSpeed {
     SecondsPerTick(f64),
     TicksPerSecond(f64),
@@ -14,7 +14,7 @@ pub enum ClockSpeed {
 }
 
 // A speed, or the number of a refusal.
-#[derive(Drop)]
+#[derive(Clone, Copy)]
 pub enum Speeded {
     Is(ClockSpeed),
     Refused(u32),

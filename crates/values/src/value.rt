@@ -9,14 +9,14 @@ use crate::tweenable::interpolate;
 use judge::{Faults, Floated, both, first_fault, float_faults, no_faults};
 use times::tween::{Easing, apply, ease_faults};
 
-#[derive(Drop)]
+#[derive(Clone, Copy)]
 pub struct ModulatorId {
     pub slot: u32,
     pub generation: u32,
 }
 
 // From a modulator's value to a double. Either range may count down: RULES, reversed-range.
-#[derive(Drop)]
+#[derive(Clone, Copy)]
 pub struct FloatMapping {
     pub in_lo: f64,
     pub in_hi: f64,
@@ -26,7 +26,7 @@ pub struct FloatMapping {
 }
 
 // From a modulator's value to a speed.
-#[derive(Drop)]
+#[derive(Clone, Copy)]
 pub struct SpeedMapping {
     pub in_lo: f64,
     pub in_hi: f64,
@@ -35,40 +35,40 @@ pub struct SpeedMapping {
     pub easing: Easing,
 }
 
-#[derive(Drop)]
+#[derive(Clone, Copy)]
 pub enum FloatValue {
     Fixed(f64),
     FromModulator(ModulatorId, FloatMapping),
 }
 
-#[derive(Drop)]
+#[derive(Clone, Copy)]
 pub enum SpeedValue {
     Fixed(ClockSpeed),
     FromModulator(ModulatorId, SpeedMapping),
 }
 
 // What a modulator shows: its value, or that it does not live.
-#[derive(Drop)]
+#[derive(Clone, Copy)]
 pub enum Input {
     Is(f64),
     None,
 }
 
 // A linked value is none where its modulator does not live.
-#[derive(Drop)]
+#[derive(Clone, Copy)]
 pub enum RawFloat {
     Is(f64),
     None,
 }
 
-#[derive(Drop)]
+#[derive(Clone, Copy)]
 pub enum RawSpeed {
     Is(ClockSpeed),
     None,
 }
 
 // What is done to both output ends.
-#[derive(Drop)]
+#[derive(Clone, Copy)]
 pub enum Op {
     Add(f64),
     Sub(f64),
@@ -78,13 +78,13 @@ pub enum Op {
     Neg,
 }
 
-#[derive(Drop)]
+#[derive(Clone, Copy)]
 pub enum Mapped {
     Is(FloatMapping),
     Refused(u32),
 }
 
-#[derive(Drop)]
+#[derive(Clone, Copy)]
 pub enum Valued {
     Is(FloatValue),
     Refused(u32),

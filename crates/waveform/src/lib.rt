@@ -1,11 +1,13 @@
 // Waveforms, as modulator/lfo.rs has them, but for its sine: RULES, scope.
+#![tactic(auto)]
+
 ghost use Rattle.std.specs.Prelude.{◌≡◌};
 ghost use Rattle.judge.specs.Answer.{told_float};
 ghost use Rattle.waveform.specs.Waves.{pulse_of, wave_value_of, wave_faults, try_wave_value_of};
 
 use judge::{Faults, Floated, both, first_fault, float_faults, no_faults};
 
-#[derive(Drop)]
+#[derive(Clone, Copy)]
 pub enum Waveform {
     Triangle,
     Saw,

@@ -42,7 +42,7 @@ use Rattle.modulator_table.specs.declared.Modulators.{Modulators}
 use Rattle.modulator_table.specs.declared.ModulatorDone.{ModulatorDone}
 use Rattle.modulator_table.specs.declared.Slot.{Slot}
 use Rattle.commands.specs.Answers as answers
-use Rattle.commands.specs.Answers.{Given, byNumber, Left}
+use Rattle.commands.specs.Answers.{Given, by_number, Left}
 use Rattle.commands.specs.ClockCommands as clockRuns
 use Rattle.commands.specs.ClockCommands.{run_clock_of}
 use Rattle.commands.specs.ModulatorCommands as modulatorRuns
@@ -55,7 +55,7 @@ use Rattle.station.specs.Stations.{info_in}
 use Rattle.station.specs.Frames.{Try, went, stopped, seeing, turned, clock_turns, modulators_turned, clocks_turned, no_reports, closed, undone_of, framed, frame_of}
 use Rattle.station.specs.declared.frame.Framed.{Framed}
 use Rattle.station.specs.declared.Station.{Station}
-use Rattle.laws.specs.Calls.{Call, clock, modulator, frame, after, Kind, ofClock, ofModulator, keys_of, entries_of, Told, refusal, named, done, told, Target, entry, none, all, clock_target, modulator_target, target_of}
+use Rattle.laws.specs.Calls.{Call, clock, modulator, frame, after, Kind, of_clock, of_modulator, keys_of, entries_of, Told, refusal, named, done, told, Target, entry, none, all, clock_target, modulator_target, target_of}
 
 -- the answer gives no id of this kind
 abbrev Unnamed : Kind → Told → Type 0
@@ -89,7 +89,7 @@ unnamed_done k i g e = let z : ◌≡◌ {A = ℕ} 0 1 = cc in omega arith
 unnamed_refusal : (k : Kind) (n : ℕ) → Unnamed k (refusal n)
 unnamed_refusal k n i g e = let z : ◌≡◌ {A = ℕ} 0 1 = cc in omega arith
 
-unnamed_number : (k : Kind) (n : ℕ) → Unnamed k (byNumber n)
+unnamed_number : (k : Kind) (n : ℕ) → Unnamed k (by_number n)
 unnamed_number k n = cond_case (Unnamed k) done (refusal n) (unnamed_done k) (unnamed_refusal k n) (eqb n 0)
 
 -- what is read is a value or a refusal
@@ -110,43 +110,43 @@ unnamed_value : (k : Kind) (x : Float) → Unnamed k (accepted (answers.value x)
 unnamed_value k x i g e = let z : ◌≡◌ {A = ℕ} 0 1 = cc in omega arith
 
 -- the answer of a call on one table gives no id of the other
-unnamed_modulator : (t : Clocks) (c : ClockCommand) → Unnamed ofModulator (run_clock_of t c).answer
+unnamed_modulator : (t : Clocks) (c : ClockCommand) → Unnamed of_modulator (run_clock_of t c).answer
 unfolding run_clock_of
-unnamed_modulator t (clockCommand.Add v) = unnamed_read ofModulator (λ id. answers.named ofClock id.slot id.generation) (λ id i g e. let z : ◌≡◌ {A = ℕ} 0 1 = cc in omega arith) (clocks.add_clock_of t v).answer
-unnamed_modulator t (clockCommand.Remove id) = unnamed_number ofModulator (clocks.remove_of t id).refused
-unnamed_modulator t (clockCommand.Start id) = unnamed_number ofModulator (clocks.tick_on_of true t id).refused
-unnamed_modulator t (clockCommand.Stop id) = unnamed_number ofModulator (clocks.tick_on_of false t id).refused
-unnamed_modulator t (clockCommand.Reset id) = unnamed_number ofModulator (clocks.reset_clock_of t id).refused
-unnamed_modulator t (clockCommand.SetSpeed id v w) = unnamed_number ofModulator (clocks.set_speed_of t id v w).refused
-unnamed_modulator t (clockCommand.Time id) = unnamed_read ofModulator answers.time (unnamed_time ofModulator) (clocks.clock_time_of t id)
-unnamed_modulator t (clockCommand.Ticking id) = unnamed_read ofModulator answers.flag (unnamed_flag ofModulator) (clocks.clock_ticking_of t id)
-unnamed_modulator t (clockCommand.Speed id) = unnamed_read ofModulator answers.speed (unnamed_speed ofModulator) (clocks.clock_speed_of t id)
+unnamed_modulator t (clockCommand.Add v) = unnamed_read of_modulator (λ id. answers.named of_clock id.slot id.generation) (λ id i g e. let z : ◌≡◌ {A = ℕ} 0 1 = cc in omega arith) (clocks.add_clock_of t v).answer
+unnamed_modulator t (clockCommand.Remove id) = unnamed_number of_modulator (clocks.remove_of t id).refused
+unnamed_modulator t (clockCommand.Start id) = unnamed_number of_modulator (clocks.tick_on_of true t id).refused
+unnamed_modulator t (clockCommand.Stop id) = unnamed_number of_modulator (clocks.tick_on_of false t id).refused
+unnamed_modulator t (clockCommand.Reset id) = unnamed_number of_modulator (clocks.reset_clock_of t id).refused
+unnamed_modulator t (clockCommand.SetSpeed id v w) = unnamed_number of_modulator (clocks.set_speed_of t id v w).refused
+unnamed_modulator t (clockCommand.Time id) = unnamed_read of_modulator answers.time (unnamed_time of_modulator) (clocks.clock_time_of t id)
+unnamed_modulator t (clockCommand.Ticking id) = unnamed_read of_modulator answers.flag (unnamed_flag of_modulator) (clocks.clock_ticking_of t id)
+unnamed_modulator t (clockCommand.Speed id) = unnamed_read of_modulator answers.speed (unnamed_speed of_modulator) (clocks.clock_speed_of t id)
 
-unnamed_clock : (t : Modulators) (c : ModulatorCommand) → Unnamed ofClock (run_modulator_of t c).answer
+unnamed_clock : (t : Modulators) (c : ModulatorCommand) → Unnamed of_clock (run_modulator_of t c).answer
 unfolding run_modulator_of
-unnamed_clock t (modulatorCommand.AddTweener x) = unnamed_read ofClock (λ id. answers.named ofModulator id.slot id.generation) (λ id i g e. let z : ◌≡◌ {A = ℕ} 0 1 = cc in omega arith) (modulators.add_tweener_of t x).answer
-unnamed_clock t (modulatorCommand.AddLfo b) = unnamed_read ofClock (λ id. answers.named ofModulator id.slot id.generation) (λ id i g e. let z : ◌≡◌ {A = ℕ} 0 1 = cc in omega arith) (modulators.add_lfo_of t b).answer
-unnamed_clock t (modulatorCommand.Remove id) = unnamed_number ofClock (modulators.remove_of t id).refused
-unnamed_clock t (modulatorCommand.SetTweener id x w) = unnamed_number ofClock (modulators.set_tweener_of t id x w).refused
-unnamed_clock t (modulatorCommand.SetParameter id k v w) = unnamed_number ofClock (modulators.set_parameter_of t id k v w).refused
-unnamed_clock t (modulatorCommand.SetWaveform id w) = unnamed_number ofClock (modulators.set_waveform_of t id w).refused
-unnamed_clock t (modulatorCommand.SetPhase id x) = unnamed_number ofClock (modulators.set_phase_of t id x).refused
-unnamed_clock t (modulatorCommand.Value id) = unnamed_read ofClock answers.value (unnamed_value ofClock) (modulators.modulator_value_of t id)
+unnamed_clock t (modulatorCommand.AddTweener x) = unnamed_read of_clock (λ id. answers.named of_modulator id.slot id.generation) (λ id i g e. let z : ◌≡◌ {A = ℕ} 0 1 = cc in omega arith) (modulators.add_tweener_of t x).answer
+unnamed_clock t (modulatorCommand.AddLfo b) = unnamed_read of_clock (λ id. answers.named of_modulator id.slot id.generation) (λ id i g e. let z : ◌≡◌ {A = ℕ} 0 1 = cc in omega arith) (modulators.add_lfo_of t b).answer
+unnamed_clock t (modulatorCommand.Remove id) = unnamed_number of_clock (modulators.remove_of t id).refused
+unnamed_clock t (modulatorCommand.SetTweener id x w) = unnamed_number of_clock (modulators.set_tweener_of t id x w).refused
+unnamed_clock t (modulatorCommand.SetParameter id k v w) = unnamed_number of_clock (modulators.set_parameter_of t id k v w).refused
+unnamed_clock t (modulatorCommand.SetWaveform id w) = unnamed_number of_clock (modulators.set_waveform_of t id w).refused
+unnamed_clock t (modulatorCommand.SetPhase id x) = unnamed_number of_clock (modulators.set_phase_of t id x).refused
+unnamed_clock t (modulatorCommand.Value id) = unnamed_read of_clock answers.value (unnamed_value of_clock) (modulators.modulator_value_of t id)
 
 -- ---- calls on clocks
 
 module _ (t : Clocks) where
   abbrev ClockDeed : Target → Left Clocks → Type 0
-  ClockDeed a r = Deed ofClock t.keys t.clocks a r.answer r.table.keys r.table.clocks
+  ClockDeed a r = Deed of_clock t.keys t.clocks a r.answer r.table.keys r.table.clocks
 
   clock_refused : (a : Target) (n : ℕ) → ClockDeed a (clockRuns.done_as (refused_call clocks.clock_table t n))
   clock_refused a n =
       cond_case (λ (r : Told). ClockDeed a (record { answer = r; table = t })) done (refusal n)
-      (leaves a done (unnamed_done ofClock)) (leaves a (refusal n) (unnamed_refusal ofClock n)) (eqb n 0)
+      (leaves a done (unnamed_done of_clock)) (leaves a (refusal n) (unnamed_refusal of_clock n)) (eqb n 0)
 
   module _ (id : ClockId) where
     abbrev OnClock : ClockDone → Type 0
-    OnClock r = ClockDeed (entry ofClock id.slot id.generation) (clockRuns.done_as r)
+    OnClock r = ClockDeed (entry of_clock id.slot id.generation) (clockRuns.done_as r)
 
     abbrev ClockAlive : Type 0
     ClockAlive = lives_in t.keys id.slot id.generation ≡ true
@@ -167,10 +167,10 @@ module _ (t : Clocks) where
   clock_added v =
       let n : ℕ = number_of (of_add (speed_value_faults v) (is_refused (free_of 0 t.keys))) in
       cond_case (λ r. ClockDeed none (clockRuns.added_as r)) (placed_in clocks.clock_table t (new_clock v) (free_of 0 t.keys)) (refused_add clocks.clock_table t n)
-      (put (free_of 0 t.keys) refl) (leaves none (refusal n) (unnamed_refusal ofClock n)) (eqb n 0)
+      (put (free_of 0 t.keys) refl) (leaves none (refusal n) (unnamed_refusal of_clock n)) (eqb n 0)
     where
       put : (w : Answer Place) → free_of 0 t.keys ≡ w → ClockDeed none (clockRuns.added_as (placed_in clocks.clock_table t (new_clock v) w))
-      put (refused m) e = leaves none (refusal m) (unnamed_refusal ofClock m)
+      put (refused m) e = leaves none (refusal m) (unnamed_refusal of_clock m)
       put (accepted (place i g)) e = adds i g (new_clock v) e
 
   clock_deed : (c : ClockCommand) → ClockDeed (clock_target c) (run_clock_of t c)
@@ -183,20 +183,20 @@ module _ (t : Clocks) where
   clock_deed (clockCommand.SetSpeed id v w) = on_clock id (λ i c. clocks.by_set t i c (speeds.try_set_of c.speed v w)) (λ c l.
       let s = speeds.try_set_of c.speed v w in
       clock_changed id s.refused (sped_of s.parameter c) l)
-  clock_deed (clockCommand.Time id) = leaves none _ (unnamed_read ofClock answers.time (unnamed_time ofClock) (clocks.clock_time_of t id))
-  clock_deed (clockCommand.Ticking id) = leaves none _ (unnamed_read ofClock answers.flag (unnamed_flag ofClock) (clocks.clock_ticking_of t id))
-  clock_deed (clockCommand.Speed id) = leaves none _ (unnamed_read ofClock answers.speed (unnamed_speed ofClock) (clocks.clock_speed_of t id))
+  clock_deed (clockCommand.Time id) = leaves none _ (unnamed_read of_clock answers.time (unnamed_time of_clock) (clocks.clock_time_of t id))
+  clock_deed (clockCommand.Ticking id) = leaves none _ (unnamed_read of_clock answers.flag (unnamed_flag of_clock) (clocks.clock_ticking_of t id))
+  clock_deed (clockCommand.Speed id) = leaves none _ (unnamed_read of_clock answers.speed (unnamed_speed of_clock) (clocks.clock_speed_of t id))
 
 -- ---- calls on modulators
 
 module _ (t : Modulators) where
   abbrev ModulatorDeed : Target → Left Modulators → Type 0
-  ModulatorDeed a r = Deed ofModulator t.keys t.slots a r.answer r.table.keys r.table.slots
+  ModulatorDeed a r = Deed of_modulator t.keys t.slots a r.answer r.table.keys r.table.slots
 
   modulator_refused : (a : Target) (n : ℕ) → ModulatorDeed a (modulatorRuns.done_as (refused_call modulators.modulator_table t n))
   modulator_refused a n =
       cond_case (λ (r : Told). ModulatorDeed a (record { answer = r; table = t })) done (refusal n)
-      (leaves a done (unnamed_done ofModulator)) (leaves a (refusal n) (unnamed_refusal ofModulator n)) (eqb n 0)
+      (leaves a done (unnamed_done of_modulator)) (leaves a (refusal n) (unnamed_refusal of_modulator n)) (eqb n 0)
 
   -- the modulator changed where a number is 0, and refused by it elsewhere
   abbrev set_or : ℕ → Modulator → ℕ → ModulatorDone
@@ -210,7 +210,7 @@ module _ (t : Modulators) where
 
   module _ (id : ModulatorId) where
     abbrev OnModulator : ModulatorDone → Type 0
-    OnModulator r = ModulatorDeed (entry ofModulator id.slot id.generation) (modulatorRuns.done_as r)
+    OnModulator r = ModulatorDeed (entry of_modulator id.slot id.generation) (modulatorRuns.done_as r)
 
     abbrev ModulatorAlive : Type 0
     ModulatorAlive = lives_in t.keys id.slot id.generation ≡ true
@@ -243,10 +243,10 @@ module _ (t : Modulators) where
   modulator_added f m =
       let n : ℕ = number_of (of_add f (is_refused (free_of 0 t.keys))) in
       cond_case (λ r. ModulatorDeed none (modulatorRuns.added_as r)) (placed_in modulators.modulator_table t (modulators.slot_of m) (free_of 0 t.keys)) (refused_add modulators.modulator_table t n)
-      (put (free_of 0 t.keys) refl) (leaves none (refusal n) (unnamed_refusal ofModulator n)) (eqb n 0)
+      (put (free_of 0 t.keys) refl) (leaves none (refusal n) (unnamed_refusal of_modulator n)) (eqb n 0)
     where
       put : (w : Answer Place) → free_of 0 t.keys ≡ w → ModulatorDeed none (modulatorRuns.added_as (placed_in modulators.modulator_table t (modulators.slot_of m) w))
-      put (refused k) e = leaves none (refusal k) (unnamed_refusal ofModulator k)
+      put (refused k) e = leaves none (refusal k) (unnamed_refusal of_modulator k)
       put (accepted (place i g)) e = adds i g (modulators.slot_of m) e
 
   modulator_deed : (c : ModulatorCommand) → ModulatorDeed (modulator_target c) (run_modulator_of t c)
@@ -258,13 +258,13 @@ module _ (t : Modulators) where
   modulator_deed (modulatorCommand.SetParameter id k v w) = lfo_changed id (λ old. first_fault (floats.target_faults v w)) (λ old. OfLfo (modulators.parameter_by old k v w))
   modulator_deed (modulatorCommand.SetWaveform id w) = lfo_changed id (λ old. first_fault (wave_faults w)) (λ old. OfLfo (with_wave_of w old))
   modulator_deed (modulatorCommand.SetPhase id x) = lfo_changed id (λ old. first_fault (float_faults x)) (λ old. OfLfo (with_phase_of x old))
-  modulator_deed (modulatorCommand.Value id) = leaves none _ (unnamed_read ofModulator answers.value (unnamed_value ofModulator) (modulators.modulator_value_of t id))
+  modulator_deed (modulatorCommand.Value id) = leaves none _ (unnamed_read of_modulator answers.value (unnamed_value of_modulator) (modulators.modulator_value_of t id))
 
 -- ---- frames
 
 module _ (k : Kind) (st : Station) where
   abbrev FrameDeed : Framed → Type 0
-  FrameDeed r = Deed k (keys_of k st) (entries_of k st) all (byNumber r.refused) (keys_of k r.station) (entries_of k r.station)
+  FrameDeed r = Deed k (keys_of k st) (entries_of k st) all (by_number r.refused) (keys_of k r.station) (entries_of k r.station)
 
   frame_undone : (n : ℕ) → FrameDeed (undone_of st n)
   frame_undone n = leaves all _ (unnamed_number k n)
@@ -278,8 +278,8 @@ turned_deed :
     (k : Kind) (st : Station) (cs : List Clock) (ss : List Slot)
     → let s : Station = record { clocks = record { keys = st.clocks.keys; clocks = cs }; modulators = turned_to st ss } in
     Deed k (keys_of k st) (entries_of k st) all done (keys_of k s) (entries_of k s)
-turned_deed ofClock st cs ss = turns cs
-turned_deed ofModulator st cs ss = turns ss
+turned_deed of_clock st cs ss = turns cs
+turned_deed of_modulator st cs ss = turns ss
 
 module _ (k : Kind) (st : Station) (ss : List Slot) where
   framed_deed : (r : Try) → FrameDeed k st (framed st (turned_to st ss) (closed st.clocks r))
@@ -300,9 +300,9 @@ frame_deed k st dt =
 -- ---- every call
 
 pub deed : (k : Kind) (st : Station) (c : Call) → Deed k (keys_of k st) (entries_of k st) (target_of c) (told st c) (keys_of k (after st c)) (entries_of k (after st c))
-deed ofClock st (clock c) = clock_deed st.clocks c
-deed ofClock st (modulator c) = leaves _ _ (unnamed_clock st.modulators c)
-deed ofClock st (frame dt) = frame_deed ofClock st dt
-deed ofModulator st (clock c) = leaves _ _ (unnamed_modulator st.clocks c)
-deed ofModulator st (modulator c) = modulator_deed st.modulators c
-deed ofModulator st (frame dt) = frame_deed ofModulator st dt
+deed of_clock st (clock c) = clock_deed st.clocks c
+deed of_clock st (modulator c) = leaves _ _ (unnamed_clock st.modulators c)
+deed of_clock st (frame dt) = frame_deed of_clock st dt
+deed of_modulator st (clock c) = leaves _ _ (unnamed_modulator st.clocks c)
+deed of_modulator st (modulator c) = modulator_deed st.modulators c
+deed of_modulator st (frame dt) = frame_deed of_modulator st dt

@@ -20,14 +20,14 @@ use Rattle.commands.specs.ClockCommands.{run_clock_of}
 use Rattle.commands.specs.declared.clock_command.ClockCommand.{ClockCommand}
 use Rattle.commands.specs.declared.clock_command.ClockCommand.TheVariants as command
 use Rattle.station.specs.declared.Station.{Station}
-use Rattle.laws.specs.Calls.{clock, ofClock, clock_target, Touches}
+use Rattle.laws.specs.Calls.{clock, of_clock, clock_target, Touches}
 use Rattle.laws.proofs.Apart.{apart}
 use Rattle.laws.proofs.lemmas.Deeds.{cond_case}
 use Rattle.laws.proofs.lemmas.Entries.{holds_same, stays_held, Names, names_on}
 
 -- what a command makes of the clock c of an id
 pub data Makes (id : ClockId) (c : Clock) : ClockCommand → Clock → Type 0 where
-  leaves : (x : ClockCommand) → (Touches (clock_target x) ofClock id.slot id.generation → ⊥) → Makes id c x c
+  leaves : (x : ClockCommand) → (Touches (clock_target x) of_clock id.slot id.generation → ⊥) → Makes id c x c
   starts : Makes id c (command.Start id) (ticking_of true c)
   stops : Makes id c (command.Stop id) (ticking_of false c)
   resets : Makes id c (command.Reset id) (reset_of c)
@@ -61,12 +61,12 @@ module _ (st : Station) (id : ClockId) (c : Clock) (n : Names st.clocks id c) wh
   Done x r = Made r.table id c x
 
   -- a call that does not act on it
-  elsewhere : (x : ClockCommand) → (Touches (clock_target x) ofClock id.slot id.generation → ⊥) → Made (run_clock_of st.clocks x).table id c x
+  elsewhere : (x : ClockCommand) → (Touches (clock_target x) of_clock id.slot id.generation → ⊥) → Made (run_clock_of st.clocks x).table id c x
   elsewhere x o = record {
     now = c;
     names = record {
-      lives = (apart ofClock st (clock x) id.slot id.generation o n.lives).alive;
-      holds = stays_held ofClock st id.slot id.generation n.lives (clock x) o c n.holds;
+      lives = (apart of_clock st (clock x) id.slot id.generation o n.lives).alive;
+      holds = stays_held of_clock st id.slot id.generation n.lives (clock x) o c n.holds;
     };
     by = leaves x o;
   }

@@ -26,7 +26,7 @@ use Rattle.station.specs.Stations.{fresh_station, info_in}
 use Rattle.station.specs.Turns.{turn_modulator}
 use Rattle.station.specs.declared.frame.Framed.{Framed}
 use Rattle.station.specs.declared.Station.{Station}
-use Rattle.laws.specs.Calls.{Call, clock, modulator, frame, after, after_all, Kind, ofClock, ofModulator, Told, Target, all, clock_target, modulator_target}
+use Rattle.laws.specs.Calls.{Call, clock, modulator, frame, after, after_all, Kind, of_clock, of_modulator, Told, Target, all, clock_target, modulator_target}
 use Rattle.laws.proofs.lemmas.Deeds.{Deed, leaves, changes, removes, adds, turns, deed, cond_case, read_case, turned_to}
 use Rattle.laws.proofs.Lives.{frame_keys}
 use Rattle.laws.proofs.lemmas.OneTurn.{frame_length, frame_refused}
@@ -60,12 +60,12 @@ clock_not_all (command.Speed j) e = let z : ◌≡◌ {A = ℕ} 0 1 = cc in omeg
 
 module _ (st : Station) (s : Sixteen st.clocks) where
   pub call_sixteen : (c : Call) → Sixteen (after st c).clocks
-  call_sixteen (clock c) = let l = lengths (deed ofClock st (clock c)) (clock_not_all c) in record { keys = l.0 ∙ s.keys; clocks = l.1 ∙ s.clocks }
+  call_sixteen (clock c) = let l = lengths (deed of_clock st (clock c)) (clock_not_all c) in record { keys = l.0 ∙ s.keys; clocks = l.1 ∙ s.clocks }
   call_sixteen (modulator c) = s
   call_sixteen (frame dt) = go (ℕ_discrete (frame_of st dt).refused 0)
     where
       go : Dec ((frame_of st dt).refused ≡ 0) → Sixteen (frame_of st dt).station.clocks
-      go (yes e) = record { keys = ap length (frame_keys ofClock st dt) ∙ s.keys; clocks = frame_length st dt e ∙ s.clocks }
+      go (yes e) = record { keys = ap length (frame_keys of_clock st dt) ∙ s.keys; clocks = frame_length st dt e ∙ s.clocks }
       go (no n) = rw (frame_refused st dt n) s
 
 pub run_sixteen : (st : Station) → Sixteen st.clocks → (cs : List Call) → Sixteen (after_all st cs).clocks
@@ -141,8 +141,8 @@ run_slots st s (c ∷ cs) = run_slots (after st c) (go c) cs
   where
     go : (c : Call) → SixteenSlots (after st c).modulators
     go (clock c) = s
-    go (modulator c) = let l = lengths (deed ofModulator st (modulator c)) (modulator_not_all c) in record { keys = l.0 ∙ s.keys; slots = l.1 ∙ s.slots }
-    go (frame dt) = record { keys = ap length (frame_keys ofModulator st dt) ∙ s.keys; slots = frame_slots st dt ∙ s.slots }
+    go (modulator c) = let l = lengths (deed of_modulator st (modulator c)) (modulator_not_all c) in record { keys = l.0 ∙ s.keys; slots = l.1 ∙ s.slots }
+    go (frame dt) = record { keys = ap length (frame_keys of_modulator st dt) ∙ s.keys; slots = frame_slots st dt ∙ s.slots }
 
 pub reached_slots : (cs : List Call) → SixteenSlots (after_all fresh_station cs).modulators
 reached_slots = run_slots fresh_station (record { keys = refl; slots = refl })

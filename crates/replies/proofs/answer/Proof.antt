@@ -1,6 +1,6 @@
 -- `replies::answer` is proved: each kind of answer has its line. Assumes nothing.
 use mathlib.Core.Path.{◌∙◌}
-use Rattle.answers.specs.Answers.{speedText}
+use Rattle.answers.specs.Answers.{speed_text}
 use Rattle.digits.specs.Puts.{place}
 use Rattle.digits.proofs.Pieces.{line}
 use Rattle.replies.proofs.answer.Statement.{statement}
@@ -24,7 +24,7 @@ returns-5 c = rw (c.before.before.before.before.before.before.before.before.befo
 returns-6 : tie.Need-returns-6
 returns-6 c =
     let known = c.before.before.before.before.before.before.before.before.before in
-    rw known.told5.given.1 (line (place known.before.before.before.args.out.now 0) (speedText known.told5.given.0.0) c.before.before.before.before.before.before.speed.ensures c.before.before.end3.ensures)
+    rw known.told5.given.1 (line (place known.before.before.before.args.out.now 0) (speed_text known.told5.given.0.0) c.before.before.before.before.before.before.speed.ensures c.before.before.end3.ensures)
 
 returns-7 : tie.Need-returns-7
 returns-7 c = rw (c.before.before.before.before.before.before.before.before.before.told6.given.1, c.before.before.end4.ensures, c.before.before.before.before.before.before.float.ensures)
