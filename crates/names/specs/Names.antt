@@ -17,96 +17,96 @@ use Rattle.names.specs.declared.TimeCall.TheVariants as time
 -- ---- the names
 
 -- "clock.add"
-abbrev pub «clockAdd» : List ℕ
-«clockAdd» = 0x63 ∷ 0x6c ∷ 0x6f ∷ 0x63 ∷ 0x6b ∷ 0x2e ∷ 0x61 ∷ 0x64 ∷ 0x64 ∷ []
+abbrev pub «clock_add» : List ℕ
+«clock_add» = 0x63 ∷ 0x6c ∷ 0x6f ∷ 0x63 ∷ 0x6b ∷ 0x2e ∷ 0x61 ∷ 0x64 ∷ 0x64 ∷ []
 
 -- "clock.drop"
-abbrev pub «clockDrop» : List ℕ
-«clockDrop» = 0x63 ∷ 0x6c ∷ 0x6f ∷ 0x63 ∷ 0x6b ∷ 0x2e ∷ 0x64 ∷ 0x72 ∷ 0x6f ∷ 0x70 ∷ []
+abbrev pub «clock_drop» : List ℕ
+«clock_drop» = 0x63 ∷ 0x6c ∷ 0x6f ∷ 0x63 ∷ 0x6b ∷ 0x2e ∷ 0x64 ∷ 0x72 ∷ 0x6f ∷ 0x70 ∷ []
 
 -- "clock.start"
-abbrev pub «clockStart» : List ℕ
-«clockStart» = 0x63 ∷ 0x6c ∷ 0x6f ∷ 0x63 ∷ 0x6b ∷ 0x2e ∷ 0x73 ∷ 0x74 ∷ 0x61 ∷ 0x72 ∷ 0x74 ∷ []
+abbrev pub «clock_start» : List ℕ
+«clock_start» = 0x63 ∷ 0x6c ∷ 0x6f ∷ 0x63 ∷ 0x6b ∷ 0x2e ∷ 0x73 ∷ 0x74 ∷ 0x61 ∷ 0x72 ∷ 0x74 ∷ []
 
 -- "clock.stop"
-abbrev pub «clockStop» : List ℕ
-«clockStop» = 0x63 ∷ 0x6c ∷ 0x6f ∷ 0x63 ∷ 0x6b ∷ 0x2e ∷ 0x73 ∷ 0x74 ∷ 0x6f ∷ 0x70 ∷ []
+abbrev pub «clock_stop» : List ℕ
+«clock_stop» = 0x63 ∷ 0x6c ∷ 0x6f ∷ 0x63 ∷ 0x6b ∷ 0x2e ∷ 0x73 ∷ 0x74 ∷ 0x6f ∷ 0x70 ∷ []
 
 -- "clock.reset"
-abbrev pub «clockReset» : List ℕ
-«clockReset» = 0x63 ∷ 0x6c ∷ 0x6f ∷ 0x63 ∷ 0x6b ∷ 0x2e ∷ 0x72 ∷ 0x65 ∷ 0x73 ∷ 0x65 ∷ 0x74 ∷ []
+abbrev pub «clock_reset» : List ℕ
+«clock_reset» = 0x63 ∷ 0x6c ∷ 0x6f ∷ 0x63 ∷ 0x6b ∷ 0x2e ∷ 0x72 ∷ 0x65 ∷ 0x73 ∷ 0x65 ∷ 0x74 ∷ []
 
 -- "clock.speed"
-abbrev pub «clockSpeed» : List ℕ
-«clockSpeed» = 0x63 ∷ 0x6c ∷ 0x6f ∷ 0x63 ∷ 0x6b ∷ 0x2e ∷ 0x73 ∷ 0x70 ∷ 0x65 ∷ 0x65 ∷ 0x64 ∷ []
+abbrev pub «clock_speed» : List ℕ
+«clock_speed» = 0x63 ∷ 0x6c ∷ 0x6f ∷ 0x63 ∷ 0x6b ∷ 0x2e ∷ 0x73 ∷ 0x70 ∷ 0x65 ∷ 0x65 ∷ 0x64 ∷ []
 
 -- "clock.time"
-abbrev pub «clockTime» : List ℕ
-«clockTime» = 0x63 ∷ 0x6c ∷ 0x6f ∷ 0x63 ∷ 0x6b ∷ 0x2e ∷ 0x74 ∷ 0x69 ∷ 0x6d ∷ 0x65 ∷ []
+abbrev pub «clock_time» : List ℕ
+«clock_time» = 0x63 ∷ 0x6c ∷ 0x6f ∷ 0x63 ∷ 0x6b ∷ 0x2e ∷ 0x74 ∷ 0x69 ∷ 0x6d ∷ 0x65 ∷ []
 
 -- "clock.ticking"
-abbrev pub «clockTicking» : List ℕ
-«clockTicking» = 0x63 ∷ 0x6c ∷ 0x6f ∷ 0x63 ∷ 0x6b ∷ 0x2e ∷ 0x74 ∷ 0x69 ∷ 0x63 ∷ 0x6b ∷ 0x69 ∷ 0x6e ∷ 0x67 ∷ []
+abbrev pub «clock_ticking» : List ℕ
+«clock_ticking» = 0x63 ∷ 0x6c ∷ 0x6f ∷ 0x63 ∷ 0x6b ∷ 0x2e ∷ 0x74 ∷ 0x69 ∷ 0x63 ∷ 0x6b ∷ 0x69 ∷ 0x6e ∷ 0x67 ∷ []
 
 -- "clock.getspeed"
-abbrev pub «clockGetspeed» : List ℕ
-«clockGetspeed» = 0x63 ∷ 0x6c ∷ 0x6f ∷ 0x63 ∷ 0x6b ∷ 0x2e ∷ 0x67 ∷ 0x65 ∷ 0x74 ∷ 0x73 ∷ 0x70 ∷ 0x65 ∷ 0x65 ∷ 0x64 ∷ []
+abbrev pub «clock_getspeed» : List ℕ
+«clock_getspeed» = 0x63 ∷ 0x6c ∷ 0x6f ∷ 0x63 ∷ 0x6b ∷ 0x2e ∷ 0x67 ∷ 0x65 ∷ 0x74 ∷ 0x73 ∷ 0x70 ∷ 0x65 ∷ 0x65 ∷ 0x64 ∷ []
 
 -- "clock.report"
-abbrev pub «clockReport» : List ℕ
-«clockReport» = 0x63 ∷ 0x6c ∷ 0x6f ∷ 0x63 ∷ 0x6b ∷ 0x2e ∷ 0x72 ∷ 0x65 ∷ 0x70 ∷ 0x6f ∷ 0x72 ∷ 0x74 ∷ []
+abbrev pub «clock_report» : List ℕ
+«clock_report» = 0x63 ∷ 0x6c ∷ 0x6f ∷ 0x63 ∷ 0x6b ∷ 0x2e ∷ 0x72 ∷ 0x65 ∷ 0x70 ∷ 0x6f ∷ 0x72 ∷ 0x74 ∷ []
 
 -- "clock.preset"
-abbrev pub «clockPreset» : List ℕ
-«clockPreset» = 0x63 ∷ 0x6c ∷ 0x6f ∷ 0x63 ∷ 0x6b ∷ 0x2e ∷ 0x70 ∷ 0x72 ∷ 0x65 ∷ 0x73 ∷ 0x65 ∷ 0x74 ∷ []
+abbrev pub «clock_preset» : List ℕ
+«clock_preset» = 0x63 ∷ 0x6c ∷ 0x6f ∷ 0x63 ∷ 0x6b ∷ 0x2e ∷ 0x70 ∷ 0x72 ∷ 0x65 ∷ 0x73 ∷ 0x65 ∷ 0x74 ∷ []
 
 -- "clock.gen"
-abbrev pub «clockGen» : List ℕ
-«clockGen» = 0x63 ∷ 0x6c ∷ 0x6f ∷ 0x63 ∷ 0x6b ∷ 0x2e ∷ 0x67 ∷ 0x65 ∷ 0x6e ∷ []
+abbrev pub «clock_gen» : List ℕ
+«clock_gen» = 0x63 ∷ 0x6c ∷ 0x6f ∷ 0x63 ∷ 0x6b ∷ 0x2e ∷ 0x67 ∷ 0x65 ∷ 0x6e ∷ []
 
 -- "dur.secs"
-abbrev pub «durSecs» : List ℕ
-«durSecs» = 0x64 ∷ 0x75 ∷ 0x72 ∷ 0x2e ∷ 0x73 ∷ 0x65 ∷ 0x63 ∷ 0x73 ∷ []
+abbrev pub «dur_secs» : List ℕ
+«dur_secs» = 0x64 ∷ 0x75 ∷ 0x72 ∷ 0x2e ∷ 0x73 ∷ 0x65 ∷ 0x63 ∷ 0x73 ∷ []
 
 -- "ease"
 abbrev pub «ease» : List ℕ
 «ease» = 0x65 ∷ 0x61 ∷ 0x73 ∷ 0x65 ∷ []
 
 -- "f.trunc"
-abbrev pub «fTrunc» : List ℕ
-«fTrunc» = 0x66 ∷ 0x2e ∷ 0x74 ∷ 0x72 ∷ 0x75 ∷ 0x6e ∷ 0x63 ∷ []
+abbrev pub «f_trunc» : List ℕ
+«f_trunc» = 0x66 ∷ 0x2e ∷ 0x74 ∷ 0x72 ∷ 0x75 ∷ 0x6e ∷ 0x63 ∷ []
 
 -- "f.fract"
-abbrev pub «fFract» : List ℕ
-«fFract» = 0x66 ∷ 0x2e ∷ 0x66 ∷ 0x72 ∷ 0x61 ∷ 0x63 ∷ 0x74 ∷ []
+abbrev pub «f_fract» : List ℕ
+«f_fract» = 0x66 ∷ 0x2e ∷ 0x66 ∷ 0x72 ∷ 0x61 ∷ 0x63 ∷ 0x74 ∷ []
 
 -- "f.ceil"
-abbrev pub «fCeil» : List ℕ
-«fCeil» = 0x66 ∷ 0x2e ∷ 0x63 ∷ 0x65 ∷ 0x69 ∷ 0x6c ∷ []
+abbrev pub «f_ceil» : List ℕ
+«f_ceil» = 0x66 ∷ 0x2e ∷ 0x63 ∷ 0x65 ∷ 0x69 ∷ 0x6c ∷ []
 
 -- "f.abs"
-abbrev pub «fAbs» : List ℕ
-«fAbs» = 0x66 ∷ 0x2e ∷ 0x61 ∷ 0x62 ∷ 0x73 ∷ []
+abbrev pub «f_abs» : List ℕ
+«f_abs» = 0x66 ∷ 0x2e ∷ 0x61 ∷ 0x62 ∷ 0x73 ∷ []
 
 -- "f.clamp"
-abbrev pub «fClamp» : List ℕ
-«fClamp» = 0x66 ∷ 0x2e ∷ 0x63 ∷ 0x6c ∷ 0x61 ∷ 0x6d ∷ 0x70 ∷ []
+abbrev pub «f_clamp» : List ℕ
+«f_clamp» = 0x66 ∷ 0x2e ∷ 0x63 ∷ 0x6c ∷ 0x61 ∷ 0x6d ∷ 0x70 ∷ []
 
 -- "fp.new"
-abbrev pub «fpNew» : List ℕ
-«fpNew» = 0x66 ∷ 0x70 ∷ 0x2e ∷ 0x6e ∷ 0x65 ∷ 0x77 ∷ []
+abbrev pub «fp_new» : List ℕ
+«fp_new» = 0x66 ∷ 0x70 ∷ 0x2e ∷ 0x6e ∷ 0x65 ∷ 0x77 ∷ []
 
 -- "fp.set"
-abbrev pub «fpSet» : List ℕ
-«fpSet» = 0x66 ∷ 0x70 ∷ 0x2e ∷ 0x73 ∷ 0x65 ∷ 0x74 ∷ []
+abbrev pub «fp_set» : List ℕ
+«fp_set» = 0x66 ∷ 0x70 ∷ 0x2e ∷ 0x73 ∷ 0x65 ∷ 0x74 ∷ []
 
 -- "fp.up"
-abbrev pub «fpUp» : List ℕ
-«fpUp» = 0x66 ∷ 0x70 ∷ 0x2e ∷ 0x75 ∷ 0x70 ∷ []
+abbrev pub «fp_up» : List ℕ
+«fp_up» = 0x66 ∷ 0x70 ∷ 0x2e ∷ 0x75 ∷ 0x70 ∷ []
 
 -- "fp.val"
-abbrev pub «fpVal» : List ℕ
-«fpVal» = 0x66 ∷ 0x70 ∷ 0x2e ∷ 0x76 ∷ 0x61 ∷ 0x6c ∷ []
+abbrev pub «fp_val» : List ℕ
+«fp_val» = 0x66 ∷ 0x70 ∷ 0x2e ∷ 0x76 ∷ 0x61 ∷ 0x6c ∷ []
 
 -- "frame"
 abbrev pub «frame» : List ℕ
@@ -117,184 +117,184 @@ abbrev pub «lerp» : List ℕ
 «lerp» = 0x6c ∷ 0x65 ∷ 0x72 ∷ 0x70 ∷ []
 
 -- "lfo.add"
-abbrev pub «lfoAdd» : List ℕ
-«lfoAdd» = 0x6c ∷ 0x66 ∷ 0x6f ∷ 0x2e ∷ 0x61 ∷ 0x64 ∷ 0x64 ∷ []
+abbrev pub «lfo_add» : List ℕ
+«lfo_add» = 0x6c ∷ 0x66 ∷ 0x6f ∷ 0x2e ∷ 0x61 ∷ 0x64 ∷ 0x64 ∷ []
 
 -- "lfo.freq"
-abbrev pub «lfoFreq» : List ℕ
-«lfoFreq» = 0x6c ∷ 0x66 ∷ 0x6f ∷ 0x2e ∷ 0x66 ∷ 0x72 ∷ 0x65 ∷ 0x71 ∷ []
+abbrev pub «lfo_freq» : List ℕ
+«lfo_freq» = 0x6c ∷ 0x66 ∷ 0x6f ∷ 0x2e ∷ 0x66 ∷ 0x72 ∷ 0x65 ∷ 0x71 ∷ []
 
 -- "lfo.amp"
-abbrev pub «lfoAmp» : List ℕ
-«lfoAmp» = 0x6c ∷ 0x66 ∷ 0x6f ∷ 0x2e ∷ 0x61 ∷ 0x6d ∷ 0x70 ∷ []
+abbrev pub «lfo_amp» : List ℕ
+«lfo_amp» = 0x6c ∷ 0x66 ∷ 0x6f ∷ 0x2e ∷ 0x61 ∷ 0x6d ∷ 0x70 ∷ []
 
 -- "lfo.off"
-abbrev pub «lfoOff» : List ℕ
-«lfoOff» = 0x6c ∷ 0x66 ∷ 0x6f ∷ 0x2e ∷ 0x6f ∷ 0x66 ∷ 0x66 ∷ []
+abbrev pub «lfo_off» : List ℕ
+«lfo_off» = 0x6c ∷ 0x66 ∷ 0x6f ∷ 0x2e ∷ 0x6f ∷ 0x66 ∷ 0x66 ∷ []
 
 -- "lfo.wave"
-abbrev pub «lfoWave» : List ℕ
-«lfoWave» = 0x6c ∷ 0x66 ∷ 0x6f ∷ 0x2e ∷ 0x77 ∷ 0x61 ∷ 0x76 ∷ 0x65 ∷ []
+abbrev pub «lfo_wave» : List ℕ
+«lfo_wave» = 0x6c ∷ 0x66 ∷ 0x6f ∷ 0x2e ∷ 0x77 ∷ 0x61 ∷ 0x76 ∷ 0x65 ∷ []
 
 -- "lfo.phase"
-abbrev pub «lfoPhase» : List ℕ
-«lfoPhase» = 0x6c ∷ 0x66 ∷ 0x6f ∷ 0x2e ∷ 0x70 ∷ 0x68 ∷ 0x61 ∷ 0x73 ∷ 0x65 ∷ []
+abbrev pub «lfo_phase» : List ℕ
+«lfo_phase» = 0x6c ∷ 0x66 ∷ 0x6f ∷ 0x2e ∷ 0x70 ∷ 0x68 ∷ 0x61 ∷ 0x73 ∷ 0x65 ∷ []
 
 -- "map.f"
-abbrev pub «mapF» : List ℕ
-«mapF» = 0x6d ∷ 0x61 ∷ 0x70 ∷ 0x2e ∷ 0x66 ∷ []
+abbrev pub «map_f» : List ℕ
+«map_f» = 0x6d ∷ 0x61 ∷ 0x70 ∷ 0x2e ∷ 0x66 ∷ []
 
 -- "map.s"
-abbrev pub «mapS» : List ℕ
-«mapS» = 0x6d ∷ 0x61 ∷ 0x70 ∷ 0x2e ∷ 0x73 ∷ []
+abbrev pub «map_s» : List ℕ
+«map_s» = 0x6d ∷ 0x61 ∷ 0x70 ∷ 0x2e ∷ 0x73 ∷ []
 
 -- "map.add"
-abbrev pub «mapAdd» : List ℕ
-«mapAdd» = 0x6d ∷ 0x61 ∷ 0x70 ∷ 0x2e ∷ 0x61 ∷ 0x64 ∷ 0x64 ∷ []
+abbrev pub «map_add» : List ℕ
+«map_add» = 0x6d ∷ 0x61 ∷ 0x70 ∷ 0x2e ∷ 0x61 ∷ 0x64 ∷ 0x64 ∷ []
 
 -- "map.sub"
-abbrev pub «mapSub» : List ℕ
-«mapSub» = 0x6d ∷ 0x61 ∷ 0x70 ∷ 0x2e ∷ 0x73 ∷ 0x75 ∷ 0x62 ∷ []
+abbrev pub «map_sub» : List ℕ
+«map_sub» = 0x6d ∷ 0x61 ∷ 0x70 ∷ 0x2e ∷ 0x73 ∷ 0x75 ∷ 0x62 ∷ []
 
 -- "map.mul"
-abbrev pub «mapMul» : List ℕ
-«mapMul» = 0x6d ∷ 0x61 ∷ 0x70 ∷ 0x2e ∷ 0x6d ∷ 0x75 ∷ 0x6c ∷ []
+abbrev pub «map_mul» : List ℕ
+«map_mul» = 0x6d ∷ 0x61 ∷ 0x70 ∷ 0x2e ∷ 0x6d ∷ 0x75 ∷ 0x6c ∷ []
 
 -- "map.div"
-abbrev pub «mapDiv» : List ℕ
-«mapDiv» = 0x6d ∷ 0x61 ∷ 0x70 ∷ 0x2e ∷ 0x64 ∷ 0x69 ∷ 0x76 ∷ []
+abbrev pub «map_div» : List ℕ
+«map_div» = 0x6d ∷ 0x61 ∷ 0x70 ∷ 0x2e ∷ 0x64 ∷ 0x69 ∷ 0x76 ∷ []
 
 -- "map.rem"
-abbrev pub «mapRem» : List ℕ
-«mapRem» = 0x6d ∷ 0x61 ∷ 0x70 ∷ 0x2e ∷ 0x72 ∷ 0x65 ∷ 0x6d ∷ []
+abbrev pub «map_rem» : List ℕ
+«map_rem» = 0x6d ∷ 0x61 ∷ 0x70 ∷ 0x2e ∷ 0x72 ∷ 0x65 ∷ 0x6d ∷ []
 
 -- "map.neg"
-abbrev pub «mapNeg» : List ℕ
-«mapNeg» = 0x6d ∷ 0x61 ∷ 0x70 ∷ 0x2e ∷ 0x6e ∷ 0x65 ∷ 0x67 ∷ []
+abbrev pub «map_neg» : List ℕ
+«map_neg» = 0x6d ∷ 0x61 ∷ 0x70 ∷ 0x2e ∷ 0x6e ∷ 0x65 ∷ 0x67 ∷ []
 
 -- "mod.value"
-abbrev pub «modValue» : List ℕ
-«modValue» = 0x6d ∷ 0x6f ∷ 0x64 ∷ 0x2e ∷ 0x76 ∷ 0x61 ∷ 0x6c ∷ 0x75 ∷ 0x65 ∷ []
+abbrev pub «mod_value» : List ℕ
+«mod_value» = 0x6d ∷ 0x6f ∷ 0x64 ∷ 0x2e ∷ 0x76 ∷ 0x61 ∷ 0x6c ∷ 0x75 ∷ 0x65 ∷ []
 
 -- "mod.drop"
-abbrev pub «modDrop» : List ℕ
-«modDrop» = 0x6d ∷ 0x6f ∷ 0x64 ∷ 0x2e ∷ 0x64 ∷ 0x72 ∷ 0x6f ∷ 0x70 ∷ []
+abbrev pub «mod_drop» : List ℕ
+«mod_drop» = 0x6d ∷ 0x6f ∷ 0x64 ∷ 0x2e ∷ 0x64 ∷ 0x72 ∷ 0x6f ∷ 0x70 ∷ []
 
 -- "mod.gen"
-abbrev pub «modGen» : List ℕ
-«modGen» = 0x6d ∷ 0x6f ∷ 0x64 ∷ 0x2e ∷ 0x67 ∷ 0x65 ∷ 0x6e ∷ []
+abbrev pub «mod_gen» : List ℕ
+«mod_gen» = 0x6d ∷ 0x6f ∷ 0x64 ∷ 0x2e ∷ 0x67 ∷ 0x65 ∷ 0x6e ∷ []
 
 -- "new"
 abbrev pub «new» : List ℕ
 «new» = 0x6e ∷ 0x65 ∷ 0x77 ∷ []
 
 -- "sp.new"
-abbrev pub «spNew» : List ℕ
-«spNew» = 0x73 ∷ 0x70 ∷ 0x2e ∷ 0x6e ∷ 0x65 ∷ 0x77 ∷ []
+abbrev pub «sp_new» : List ℕ
+«sp_new» = 0x73 ∷ 0x70 ∷ 0x2e ∷ 0x6e ∷ 0x65 ∷ 0x77 ∷ []
 
 -- "sp.set"
-abbrev pub «spSet» : List ℕ
-«spSet» = 0x73 ∷ 0x70 ∷ 0x2e ∷ 0x73 ∷ 0x65 ∷ 0x74 ∷ []
+abbrev pub «sp_set» : List ℕ
+«sp_set» = 0x73 ∷ 0x70 ∷ 0x2e ∷ 0x73 ∷ 0x65 ∷ 0x74 ∷ []
 
 -- "sp.up"
-abbrev pub «spUp» : List ℕ
-«spUp» = 0x73 ∷ 0x70 ∷ 0x2e ∷ 0x75 ∷ 0x70 ∷ []
+abbrev pub «sp_up» : List ℕ
+«sp_up» = 0x73 ∷ 0x70 ∷ 0x2e ∷ 0x75 ∷ 0x70 ∷ []
 
 -- "sp.val"
-abbrev pub «spVal» : List ℕ
-«spVal» = 0x73 ∷ 0x70 ∷ 0x2e ∷ 0x76 ∷ 0x61 ∷ 0x6c ∷ []
+abbrev pub «sp_val» : List ℕ
+«sp_val» = 0x73 ∷ 0x70 ∷ 0x2e ∷ 0x76 ∷ 0x61 ∷ 0x6c ∷ []
 
 -- "speed.lerp"
-abbrev pub «speedLerp» : List ℕ
-«speedLerp» = 0x73 ∷ 0x70 ∷ 0x65 ∷ 0x65 ∷ 0x64 ∷ 0x2e ∷ 0x6c ∷ 0x65 ∷ 0x72 ∷ 0x70 ∷ []
+abbrev pub «speed_lerp» : List ℕ
+«speed_lerp» = 0x73 ∷ 0x70 ∷ 0x65 ∷ 0x65 ∷ 0x64 ∷ 0x2e ∷ 0x6c ∷ 0x65 ∷ 0x72 ∷ 0x70 ∷ []
 
 -- "speed.spt"
-abbrev pub «speedSpt» : List ℕ
-«speedSpt» = 0x73 ∷ 0x70 ∷ 0x65 ∷ 0x65 ∷ 0x64 ∷ 0x2e ∷ 0x73 ∷ 0x70 ∷ 0x74 ∷ []
+abbrev pub «speed_spt» : List ℕ
+«speed_spt» = 0x73 ∷ 0x70 ∷ 0x65 ∷ 0x65 ∷ 0x64 ∷ 0x2e ∷ 0x73 ∷ 0x70 ∷ 0x74 ∷ []
 
 -- "speed.tps"
-abbrev pub «speedTps» : List ℕ
-«speedTps» = 0x73 ∷ 0x70 ∷ 0x65 ∷ 0x65 ∷ 0x64 ∷ 0x2e ∷ 0x74 ∷ 0x70 ∷ 0x73 ∷ []
+abbrev pub «speed_tps» : List ℕ
+«speed_tps» = 0x73 ∷ 0x70 ∷ 0x65 ∷ 0x65 ∷ 0x64 ∷ 0x2e ∷ 0x74 ∷ 0x70 ∷ 0x73 ∷ []
 
 -- "speed.tpm"
-abbrev pub «speedTpm» : List ℕ
-«speedTpm» = 0x73 ∷ 0x70 ∷ 0x65 ∷ 0x65 ∷ 0x64 ∷ 0x2e ∷ 0x74 ∷ 0x70 ∷ 0x6d ∷ []
+abbrev pub «speed_tpm» : List ℕ
+«speed_tpm» = 0x73 ∷ 0x70 ∷ 0x65 ∷ 0x65 ∷ 0x64 ∷ 0x2e ∷ 0x74 ∷ 0x70 ∷ 0x6d ∷ []
 
 -- "start.up"
-abbrev pub «startUp» : List ℕ
-«startUp» = 0x73 ∷ 0x74 ∷ 0x61 ∷ 0x72 ∷ 0x74 ∷ 0x2e ∷ 0x75 ∷ 0x70 ∷ []
+abbrev pub «start_up» : List ℕ
+«start_up» = 0x73 ∷ 0x74 ∷ 0x61 ∷ 0x72 ∷ 0x74 ∷ 0x2e ∷ 0x75 ∷ 0x70 ∷ []
 
 -- "sval.raw"
-abbrev pub «svalRaw» : List ℕ
-«svalRaw» = 0x73 ∷ 0x76 ∷ 0x61 ∷ 0x6c ∷ 0x2e ∷ 0x72 ∷ 0x61 ∷ 0x77 ∷ []
+abbrev pub «sval_raw» : List ℕ
+«sval_raw» = 0x73 ∷ 0x76 ∷ 0x61 ∷ 0x6c ∷ 0x2e ∷ 0x72 ∷ 0x61 ∷ 0x77 ∷ []
 
 -- "time.fromu"
-abbrev pub «timeFromu» : List ℕ
-«timeFromu» = 0x74 ∷ 0x69 ∷ 0x6d ∷ 0x65 ∷ 0x2e ∷ 0x66 ∷ 0x72 ∷ 0x6f ∷ 0x6d ∷ 0x75 ∷ []
+abbrev pub «time_fromu» : List ℕ
+«time_fromu» = 0x74 ∷ 0x69 ∷ 0x6d ∷ 0x65 ∷ 0x2e ∷ 0x66 ∷ 0x72 ∷ 0x6f ∷ 0x6d ∷ 0x75 ∷ []
 
 -- "time.fromf"
-abbrev pub «timeFromf» : List ℕ
-«timeFromf» = 0x74 ∷ 0x69 ∷ 0x6d ∷ 0x65 ∷ 0x2e ∷ 0x66 ∷ 0x72 ∷ 0x6f ∷ 0x6d ∷ 0x66 ∷ []
+abbrev pub «time_fromf» : List ℕ
+«time_fromf» = 0x74 ∷ 0x69 ∷ 0x6d ∷ 0x65 ∷ 0x2e ∷ 0x66 ∷ 0x72 ∷ 0x6f ∷ 0x6d ∷ 0x66 ∷ []
 
 -- "time.addf"
-abbrev pub «timeAddf» : List ℕ
-«timeAddf» = 0x74 ∷ 0x69 ∷ 0x6d ∷ 0x65 ∷ 0x2e ∷ 0x61 ∷ 0x64 ∷ 0x64 ∷ 0x66 ∷ []
+abbrev pub «time_addf» : List ℕ
+«time_addf» = 0x74 ∷ 0x69 ∷ 0x6d ∷ 0x65 ∷ 0x2e ∷ 0x61 ∷ 0x64 ∷ 0x64 ∷ 0x66 ∷ []
 
 -- "time.subf"
-abbrev pub «timeSubf» : List ℕ
-«timeSubf» = 0x74 ∷ 0x69 ∷ 0x6d ∷ 0x65 ∷ 0x2e ∷ 0x73 ∷ 0x75 ∷ 0x62 ∷ 0x66 ∷ []
+abbrev pub «time_subf» : List ℕ
+«time_subf» = 0x74 ∷ 0x69 ∷ 0x6d ∷ 0x65 ∷ 0x2e ∷ 0x73 ∷ 0x75 ∷ 0x62 ∷ 0x66 ∷ []
 
 -- "time.addu"
-abbrev pub «timeAddu» : List ℕ
-«timeAddu» = 0x74 ∷ 0x69 ∷ 0x6d ∷ 0x65 ∷ 0x2e ∷ 0x61 ∷ 0x64 ∷ 0x64 ∷ 0x75 ∷ []
+abbrev pub «time_addu» : List ℕ
+«time_addu» = 0x74 ∷ 0x69 ∷ 0x6d ∷ 0x65 ∷ 0x2e ∷ 0x61 ∷ 0x64 ∷ 0x64 ∷ 0x75 ∷ []
 
 -- "time.subu"
-abbrev pub «timeSubu» : List ℕ
-«timeSubu» = 0x74 ∷ 0x69 ∷ 0x6d ∷ 0x65 ∷ 0x2e ∷ 0x73 ∷ 0x75 ∷ 0x62 ∷ 0x75 ∷ []
+abbrev pub «time_subu» : List ℕ
+«time_subu» = 0x74 ∷ 0x69 ∷ 0x6d ∷ 0x65 ∷ 0x2e ∷ 0x73 ∷ 0x75 ∷ 0x62 ∷ 0x75 ∷ []
 
 -- "time.cmp"
-abbrev pub «timeCmp» : List ℕ
-«timeCmp» = 0x74 ∷ 0x69 ∷ 0x6d ∷ 0x65 ∷ 0x2e ∷ 0x63 ∷ 0x6d ∷ 0x70 ∷ []
+abbrev pub «time_cmp» : List ℕ
+«time_cmp» = 0x74 ∷ 0x69 ∷ 0x6d ∷ 0x65 ∷ 0x2e ∷ 0x63 ∷ 0x6d ∷ 0x70 ∷ []
 
 -- "tween.default"
-abbrev pub «tweenDefault» : List ℕ
-«tweenDefault» = 0x74 ∷ 0x77 ∷ 0x65 ∷ 0x65 ∷ 0x6e ∷ 0x2e ∷ 0x64 ∷ 0x65 ∷ 0x66 ∷ 0x61 ∷ 0x75 ∷ 0x6c ∷ 0x74 ∷ []
+abbrev pub «tween_default» : List ℕ
+«tween_default» = 0x74 ∷ 0x77 ∷ 0x65 ∷ 0x65 ∷ 0x6e ∷ 0x2e ∷ 0x64 ∷ 0x65 ∷ 0x66 ∷ 0x61 ∷ 0x75 ∷ 0x6c ∷ 0x74 ∷ []
 
 -- "tweener.add"
-abbrev pub «tweenerAdd» : List ℕ
-«tweenerAdd» = 0x74 ∷ 0x77 ∷ 0x65 ∷ 0x65 ∷ 0x6e ∷ 0x65 ∷ 0x72 ∷ 0x2e ∷ 0x61 ∷ 0x64 ∷ 0x64 ∷ []
+abbrev pub «tweener_add» : List ℕ
+«tweener_add» = 0x74 ∷ 0x77 ∷ 0x65 ∷ 0x65 ∷ 0x6e ∷ 0x65 ∷ 0x72 ∷ 0x2e ∷ 0x61 ∷ 0x64 ∷ 0x64 ∷ []
 
 -- "tweener.set"
-abbrev pub «tweenerSet» : List ℕ
-«tweenerSet» = 0x74 ∷ 0x77 ∷ 0x65 ∷ 0x65 ∷ 0x6e ∷ 0x65 ∷ 0x72 ∷ 0x2e ∷ 0x73 ∷ 0x65 ∷ 0x74 ∷ []
+abbrev pub «tweener_set» : List ℕ
+«tweener_set» = 0x74 ∷ 0x77 ∷ 0x65 ∷ 0x65 ∷ 0x6e ∷ 0x65 ∷ 0x72 ∷ 0x2e ∷ 0x73 ∷ 0x65 ∷ 0x74 ∷ []
 
 -- "val.add"
-abbrev pub «valAdd» : List ℕ
-«valAdd» = 0x76 ∷ 0x61 ∷ 0x6c ∷ 0x2e ∷ 0x61 ∷ 0x64 ∷ 0x64 ∷ []
+abbrev pub «val_add» : List ℕ
+«val_add» = 0x76 ∷ 0x61 ∷ 0x6c ∷ 0x2e ∷ 0x61 ∷ 0x64 ∷ 0x64 ∷ []
 
 -- "val.sub"
-abbrev pub «valSub» : List ℕ
-«valSub» = 0x76 ∷ 0x61 ∷ 0x6c ∷ 0x2e ∷ 0x73 ∷ 0x75 ∷ 0x62 ∷ []
+abbrev pub «val_sub» : List ℕ
+«val_sub» = 0x76 ∷ 0x61 ∷ 0x6c ∷ 0x2e ∷ 0x73 ∷ 0x75 ∷ 0x62 ∷ []
 
 -- "val.mul"
-abbrev pub «valMul» : List ℕ
-«valMul» = 0x76 ∷ 0x61 ∷ 0x6c ∷ 0x2e ∷ 0x6d ∷ 0x75 ∷ 0x6c ∷ []
+abbrev pub «val_mul» : List ℕ
+«val_mul» = 0x76 ∷ 0x61 ∷ 0x6c ∷ 0x2e ∷ 0x6d ∷ 0x75 ∷ 0x6c ∷ []
 
 -- "val.div"
-abbrev pub «valDiv» : List ℕ
-«valDiv» = 0x76 ∷ 0x61 ∷ 0x6c ∷ 0x2e ∷ 0x64 ∷ 0x69 ∷ 0x76 ∷ []
+abbrev pub «val_div» : List ℕ
+«val_div» = 0x76 ∷ 0x61 ∷ 0x6c ∷ 0x2e ∷ 0x64 ∷ 0x69 ∷ 0x76 ∷ []
 
 -- "val.rem"
-abbrev pub «valRem» : List ℕ
-«valRem» = 0x76 ∷ 0x61 ∷ 0x6c ∷ 0x2e ∷ 0x72 ∷ 0x65 ∷ 0x6d ∷ []
+abbrev pub «val_rem» : List ℕ
+«val_rem» = 0x76 ∷ 0x61 ∷ 0x6c ∷ 0x2e ∷ 0x72 ∷ 0x65 ∷ 0x6d ∷ []
 
 -- "val.neg"
-abbrev pub «valNeg» : List ℕ
-«valNeg» = 0x76 ∷ 0x61 ∷ 0x6c ∷ 0x2e ∷ 0x6e ∷ 0x65 ∷ 0x67 ∷ []
+abbrev pub «val_neg» : List ℕ
+«val_neg» = 0x76 ∷ 0x61 ∷ 0x6c ∷ 0x2e ∷ 0x6e ∷ 0x65 ∷ 0x67 ∷ []
 
 -- "val.raw"
-abbrev pub «valRaw» : List ℕ
-«valRaw» = 0x76 ∷ 0x61 ∷ 0x6c ∷ 0x2e ∷ 0x72 ∷ 0x61 ∷ 0x77 ∷ []
+abbrev pub «val_raw» : List ℕ
+«val_raw» = 0x76 ∷ 0x61 ∷ 0x6c ∷ 0x2e ∷ 0x72 ∷ 0x61 ∷ 0x77 ∷ []
 
 -- "wave"
 abbrev pub «wave» : List ℕ
@@ -316,22 +316,22 @@ names n c = record { name = n; call = c }
 
 abbrev pub rows_c : List Row
 rows_c =
-    names «clockAdd» call.AddClock ∷
-    names «clockDrop» (call.OneClock oneClock.Drop) ∷
-    names «clockStart» (call.OneClock oneClock.Start) ∷
-    names «clockStop» (call.OneClock oneClock.Stop) ∷
-    names «clockReset» (call.OneClock oneClock.Reset) ∷
-    names «clockSpeed» call.SetClockSpeed ∷
-    names «clockTime» (call.OneClock oneClock.Time) ∷
-    names «clockTicking» (call.OneClock oneClock.Ticking) ∷
-    names «clockGetspeed» (call.OneClock oneClock.GetSpeed) ∷
-    names «clockReport» call.Report ∷
-    names «clockPreset» (call.Limit limit.Preset) ∷
-    names «clockGen» (call.Limit limit.ClockGen) ∷ []
+    names «clock_add» call.AddClock ∷
+    names «clock_drop» (call.OneClock oneClock.Drop) ∷
+    names «clock_start» (call.OneClock oneClock.Start) ∷
+    names «clock_stop» (call.OneClock oneClock.Stop) ∷
+    names «clock_reset» (call.OneClock oneClock.Reset) ∷
+    names «clock_speed» call.SetClockSpeed ∷
+    names «clock_time» (call.OneClock oneClock.Time) ∷
+    names «clock_ticking» (call.OneClock oneClock.Ticking) ∷
+    names «clock_getspeed» (call.OneClock oneClock.GetSpeed) ∷
+    names «clock_report» call.Report ∷
+    names «clock_preset» (call.Limit limit.Preset) ∷
+    names «clock_gen» (call.Limit limit.ClockGen) ∷ []
 
 abbrev pub rows_d : List Row
 rows_d =
-    names «durSecs» (call.Curve curve.DurSecs) ∷ []
+    names «dur_secs» (call.Curve curve.DurSecs) ∷ []
 
 abbrev pub rows_e : List Row
 rows_e =
@@ -339,40 +339,40 @@ rows_e =
 
 abbrev pub rows_f : List Row
 rows_f =
-    names «fTrunc» (call.Double double.Trunc) ∷
-    names «fFract» (call.Double double.Fract) ∷
-    names «fCeil» (call.Double double.Ceil) ∷
-    names «fAbs» (call.Double double.Abs) ∷
-    names «fClamp» (call.Double double.Clamp) ∷
-    names «fpNew» (call.FloatParameter parameter.New) ∷
-    names «fpSet» (call.FloatParameter parameter.Set) ∷
-    names «fpUp» (call.FloatParameter parameter.Up) ∷
-    names «fpVal» (call.FloatParameter parameter.Val) ∷
+    names «f_trunc» (call.Double double.Trunc) ∷
+    names «f_fract» (call.Double double.Fract) ∷
+    names «f_ceil» (call.Double double.Ceil) ∷
+    names «f_abs» (call.Double double.Abs) ∷
+    names «f_clamp» (call.Double double.Clamp) ∷
+    names «fp_new» (call.FloatParameter parameter.New) ∷
+    names «fp_set» (call.FloatParameter parameter.Set) ∷
+    names «fp_up» (call.FloatParameter parameter.Up) ∷
+    names «fp_val» (call.FloatParameter parameter.Val) ∷
     names «frame» call.Frame ∷ []
 
 abbrev pub rows_l : List Row
 rows_l =
     names «lerp» (call.Curve curve.Lerp) ∷
-    names «lfoAdd» call.AddLfo ∷
-    names «lfoFreq» (call.OneModulator oneModulator.Freq) ∷
-    names «lfoAmp» (call.OneModulator oneModulator.Amp) ∷
-    names «lfoOff» (call.OneModulator oneModulator.Off) ∷
-    names «lfoWave» (call.OneModulator oneModulator.Wave) ∷
-    names «lfoPhase» (call.OneModulator oneModulator.Phase) ∷ []
+    names «lfo_add» call.AddLfo ∷
+    names «lfo_freq» (call.OneModulator oneModulator.Freq) ∷
+    names «lfo_amp» (call.OneModulator oneModulator.Amp) ∷
+    names «lfo_off» (call.OneModulator oneModulator.Off) ∷
+    names «lfo_wave» (call.OneModulator oneModulator.Wave) ∷
+    names «lfo_phase» (call.OneModulator oneModulator.Phase) ∷ []
 
 abbrev pub rows_m : List Row
 rows_m =
-    names «mapF» call.MapFloat ∷
-    names «mapS» call.MapSpeed ∷
-    names «mapAdd» (call.Map output.Add) ∷
-    names «mapSub» (call.Map output.Sub) ∷
-    names «mapMul» (call.Map output.Mul) ∷
-    names «mapDiv» (call.Map output.Div) ∷
-    names «mapRem» (call.Map output.Rem) ∷
-    names «mapNeg» (call.Map output.Neg) ∷
-    names «modValue» (call.OneModulator oneModulator.Value) ∷
-    names «modDrop» (call.OneModulator oneModulator.Drop) ∷
-    names «modGen» (call.Limit limit.ModGen) ∷ []
+    names «map_f» call.MapFloat ∷
+    names «map_s» call.MapSpeed ∷
+    names «map_add» (call.Map output.Add) ∷
+    names «map_sub» (call.Map output.Sub) ∷
+    names «map_mul» (call.Map output.Mul) ∷
+    names «map_div» (call.Map output.Div) ∷
+    names «map_rem» (call.Map output.Rem) ∷
+    names «map_neg» (call.Map output.Neg) ∷
+    names «mod_value» (call.OneModulator oneModulator.Value) ∷
+    names «mod_drop» (call.OneModulator oneModulator.Drop) ∷
+    names «mod_gen» (call.Limit limit.ModGen) ∷ []
 
 abbrev pub rows_n : List Row
 rows_n =
@@ -380,39 +380,39 @@ rows_n =
 
 abbrev pub rows_s : List Row
 rows_s =
-    names «spNew» (call.SpeedParameter parameter.New) ∷
-    names «spSet» (call.SpeedParameter parameter.Set) ∷
-    names «spUp» (call.SpeedParameter parameter.Up) ∷
-    names «spVal» (call.SpeedParameter parameter.Val) ∷
-    names «speedLerp» call.SpeedLerp ∷
-    names «speedSpt» (call.Speed speed.Spt) ∷
-    names «speedTps» (call.Speed speed.Tps) ∷
-    names «speedTpm» (call.Speed speed.Tpm) ∷
-    names «startUp» (call.Question question.StartUp) ∷
-    names «svalRaw» (call.Question question.SvalRaw) ∷ []
+    names «sp_new» (call.SpeedParameter parameter.New) ∷
+    names «sp_set» (call.SpeedParameter parameter.Set) ∷
+    names «sp_up» (call.SpeedParameter parameter.Up) ∷
+    names «sp_val» (call.SpeedParameter parameter.Val) ∷
+    names «speed_lerp» call.SpeedLerp ∷
+    names «speed_spt» (call.Speed speed.Spt) ∷
+    names «speed_tps» (call.Speed speed.Tps) ∷
+    names «speed_tpm» (call.Speed speed.Tpm) ∷
+    names «start_up» (call.Question question.StartUp) ∷
+    names «sval_raw» (call.Question question.SvalRaw) ∷ []
 
 abbrev pub rows_t : List Row
 rows_t =
-    names «timeFromu» (call.Time time.FromU) ∷
-    names «timeFromf» (call.Time time.FromF) ∷
-    names «timeAddf» (call.Time time.AddF) ∷
-    names «timeSubf» (call.Time time.SubF) ∷
-    names «timeAddu» (call.Time time.AddU) ∷
-    names «timeSubu» (call.Time time.SubU) ∷
-    names «timeCmp» (call.Time time.Cmp) ∷
-    names «tweenDefault» (call.Curve curve.TweenDefault) ∷
-    names «tweenerAdd» call.AddTweener ∷
-    names «tweenerSet» (call.OneModulator oneModulator.Set) ∷ []
+    names «time_fromu» (call.Time time.FromU) ∷
+    names «time_fromf» (call.Time time.FromF) ∷
+    names «time_addf» (call.Time time.AddF) ∷
+    names «time_subf» (call.Time time.SubF) ∷
+    names «time_addu» (call.Time time.AddU) ∷
+    names «time_subu» (call.Time time.SubU) ∷
+    names «time_cmp» (call.Time time.Cmp) ∷
+    names «tween_default» (call.Curve curve.TweenDefault) ∷
+    names «tweener_add» call.AddTweener ∷
+    names «tweener_set» (call.OneModulator oneModulator.Set) ∷ []
 
 abbrev pub rows_v : List Row
 rows_v =
-    names «valAdd» (call.Value output.Add) ∷
-    names «valSub» (call.Value output.Sub) ∷
-    names «valMul» (call.Value output.Mul) ∷
-    names «valDiv» (call.Value output.Div) ∷
-    names «valRem» (call.Value output.Rem) ∷
-    names «valNeg» (call.Value output.Neg) ∷
-    names «valRaw» (call.Question question.ValRaw) ∷ []
+    names «val_add» (call.Value output.Add) ∷
+    names «val_sub» (call.Value output.Sub) ∷
+    names «val_mul» (call.Value output.Mul) ∷
+    names «val_div» (call.Value output.Div) ∷
+    names «val_rem» (call.Value output.Rem) ∷
+    names «val_neg» (call.Value output.Neg) ∷
+    names «val_raw» (call.Question question.ValRaw) ∷ []
 
 abbrev pub rows_w : List Row
 rows_w =
