@@ -1,0 +1,10 @@
+-- `clock_by` meets its contract: its test on the number is the definition's, and a new clock is what `new_clock` gives.
+-- Assumes nothing.
+use borrow.Author.Tests.{eq-eqb, ne_eqb}
+use Rattle.clock_table.proofs.clock_by.Goals as goal
+
+pub returns-then-n-ne0 : goal.returns-then-n-ne0
+returns-then-n-ne0 c = rw (ne_eqb _ 0 c.if-n-ne0.true)
+
+pub returns : goal.returns
+returns c = rw (eq-eqb _ 0 c.if-n-ne0.false, c.new_clock.ensures)

@@ -1,0 +1,27 @@
+-- `look` meets its contract: the clock that it reads is the one in the slot found. Assumes nothing.
+use Prim.Native.Nat.{ℕ}
+use mathlib.Core.Path.{ap, ◌∙◌}
+use Rattle.judge.specs.Answer.{accepted, refused}
+use Rattle.judge.specs.Numbers.{NEVER_ISSUED}
+use Rattle.ids.specs.Lists.{read_at}
+use Rattle.ids.proofs.Places.{living, missing, living_read}
+use Rattle.clock_table.specs.ClockTables.{in_slot, look_of}
+use Rattle.clock.specs.declared.Clock.{Clock}
+use Rattle.clock_table.proofs.Slots.{sixteen}
+use Rattle.clock_table.proofs.look.Goals as goal
+
+abbrev start : tie.After-find → tie.Start
+start c = c.before.before
+
+pub returns-then-found-ne0 : goal.returns-then-found-ne0
+unfolding look_of
+returns-then-found-ne0 c =
+    rw (missing _ _ _ (sixteen (start c).args.t1 _ (start c).well-formed.0).keys c.find-found.ensures c.if-found-ne0.true)
+
+pub returns : goal.returns
+unfolding look_of
+returns c =
+    let v = living _ _ _ (sixteen (start c).args.t1 _ (start c).well-formed.0).keys c.find-found.ensures c.if-found-ne0.false in
+    rw v.is
+    (living_read _ _ _ (sixteen (start c).args.t1 _ (start c).well-formed.0).keys c.find-found.ensures c.if-found-ne0.false (refused NEVER_ISSUED) (λ (x : Clock). accepted (in_slot c.find-found.result.slot x)) _ _ (sixteen (start c).args.t1 _ (start c).well-formed.0).clocks
+    ∙ ap (λ (i : ℕ). read_at (refused NEVER_ISSUED) (λ (x : Clock). accepted (in_slot i x)) (start PLACE).args.t1.clocks (start PLACE).args.id.slot) v.here)

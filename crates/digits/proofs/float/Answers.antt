@@ -1,0 +1,7 @@
+-- `digits::float` is proved: sixteen digits hold the 64 bits, and `io` writes as many. Assumes nothing.
+use Rattle.digits.proofs.Places.{float_is}
+use Rattle.digits.proofs.float.Goals as goal
+
+pub returns : goal.returns
+returns c =
+    rw (← float_is c.args.x c.bits.result c.hex-count.result c.bits.ensures c.bits.type-inv c.hex-count.ensures.1.0 c.hex-count.ensures.1.1) c.put.ensures

@@ -1,0 +1,7 @@
+-- `digits::number` is proved: the digits that `io` writes are the fewest that hold the number. Assumes nothing.
+use Rattle.digits.proofs.Places.{number_is}
+use Rattle.digits.proofs.number.Goals as goal
+
+pub returns : goal.returns
+returns c =
+    rw (← number_is c.args.n c.decimal-count.result c.decimal-count.ensures.1.0 c.decimal-count.ensures.1.1) c.put.ensures

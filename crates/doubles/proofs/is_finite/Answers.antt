@@ -1,0 +1,8 @@
+-- `doubles::is_finite` is proved, by a law of `Fields` at the bits of x. Assumes nothing.
+use mathlib.Core.Path.{sym, subst}
+use lib.Dec.{T}
+use Rattle.doubles.proofs.Fields.{finite_is}
+use Rattle.doubles.proofs.is_finite.Goals as goal
+
+pub returns : goal.returns
+returns c = finite_is c.args.x (subst T (sym c.well_formed.0.1) tt) c.bits.result c.bits.ensures

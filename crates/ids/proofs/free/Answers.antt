@@ -1,0 +1,31 @@
+-- `ids::free` meets its contract: the keys from the turn's slot on give the whole answer. Assumes nothing.
+use Prim.Native.Nat.{◌-◌}
+use native.Mathlib.Omega.{arith}
+use mathlib.Core.Path.{◌≡◌, refl, sym, ◌∙◌}
+use mathlib.Core.Logic.{⊎_elim}
+use lib.ListN.{length}
+use borrow.Author.Tests.{le-ltb}
+use Rattle.ids.specs.Keys.{left_at}
+use Rattle.ids.proofs.Searches.{free_here, free_later, free_none}
+use Rattle.ids.proofs.free.Goals as goal
+
+pub loop-i-init : goal.loop-i-init
+loop-i-init c = (omega arith, refl)
+
+pub returns-then-k-lt-LAST : goal.returns-then-k-lt-LAST
+returns-then-k-lt-LAST c =
+    let e : length c.args.keys ≡ 16 = c.well_formed.0.1.0.1 in
+    sym (c.loop-i.invariant.1 ∙ free_here _ _ _ (omega arith) c.if-not-k.true c.if-k-lt-LAST.true)
+
+pub loop-i-preserved : goal.loop-i-preserved
+loop-i-preserved c =
+    let e : length c.args.keys ≡ 16 = c.well_formed.0.1.0.1 in (
+      omega arith,
+      c.loop-i.invariant.1 ∙
+          free_later _ _ (left_at 0) (omega arith) (⊎_elim (λ w. rw (w.0.taken, le-ltb _ _ w.2.left)) (λ w. rw w.left) c.if-not-k.branch),
+    )
+
+pub returns : goal.returns
+returns c =
+    let e : length c.args.keys ≡ 16 = c.well_formed.0.1.0.1 in
+    sym (c.loop-i.invariant.1 ∙ free_none _ _ (omega arith))

@@ -1,0 +1,7 @@
+-- `judge::float_faults` is proved: each part of the flag is what its callee ensures. Assumes nothing.
+use lib.Ieee.{of_bits}
+use Rattle.judge.proofs.float_faults.Goals as goal
+
+pub returns : goal.returns
+unfolding of_bits
+returns c = rw (c.no_faults-f.ensures, c.is_finite.ensures, c.abs.ensures)

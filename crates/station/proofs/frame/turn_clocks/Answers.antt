@@ -1,0 +1,27 @@
+-- `turn_clocks` meets its contract: the turns that are left give the whole answer, and what is seen shows the table as
+-- it stands. Assumes nothing.
+use Prim.Native.Nat.{◌-◌}
+use mathlib.Core.Path.{sym, ap, ◌∙◌}
+use mathlib.Core.Logic.{⊎_elim}
+use Rattle.clock.specs.OneClock.{told_moved}
+use Rattle.station.proofs.frame.ClockTurns.{left_all, left_skipped, left_made, left_stopped, left_none}
+use Rattle.station.proofs.frame.turn_clocks.Goals as goal
+
+pub loop-i-init : goal.loop-i-init
+loop-i-init c =
+    left_all _ _ c.args.t _ _ c.well_formed.0 c.requires c.no_report-none.ensures
+
+-- a clock refuses
+pub returns-in-Refused : goal.returns-in-Refused
+returns-in-Refused c =
+    left_stopped _ _ _ c.loop-i.table c.loop-i.seen _ _ _ c.loop-i-test.true c.loop-i.invariant _ _ _ c.if-k.true (sym c.turn_clock.ensures ∙ ap told_moved c.in-Refused.is) c.no_report-none.ensures
+
+pub loop-i-preserved : goal.loop-i-preserved
+loop-i-preserved c =
+    ⊎_elim
+    (λ w. left_made _ _ _ c.loop-i.table c.loop-i.seen _ _ _ c.loop-i-test.true c.loop-i.invariant _ _ _ _ _ _ w.0.taken (sym w.2.ensures ∙ ap told_moved w.4.given.1) w.8.ensures w.9 w.10 w.11)
+    (λ w. left_skipped _ _ _ c.loop-i.table c.loop-i.seen _ _ _ c.loop-i-test.true c.loop-i.invariant _ _ _ w.0.left w.1 w.2 w.3)
+    c.if-k.branch
+
+pub returns : goal.returns
+returns c = left_none _ _ _ _ _ _ _ c.loop-i-test.false c.loop-i.invariant

@@ -1,0 +1,16 @@
+-- `values_of` meets its contract: the loop fills in what `slot_value` gives of each slot. Assumes nothing.
+use Prim.Native.Nat.{◌-◌}
+use mathlib.Core.Path.{refl}
+use Rattle.modulator_table.specs.ModulatorTables.{slot_value}
+use Rattle.station.proofs.Filled.{fill_none, fill_more, fill_all}
+use Rattle.station.proofs.values_of.Goals as goal
+
+pub loop-i-init : goal.loop-i-init
+loop-i-init c = fill_none _ _ _ c.well_formed.0.1.0.1 refl
+
+pub loop-i-preserved : goal.loop-i-preserved
+loop-i-preserved c =
+    fill_more _ _ _ _ _ _ c.loop-i-test.true c.slot_value.ensures c.loop-i.invariant
+
+pub returns : goal.returns
+returns c = fill_all _ _ _ _ c.loop-i-test.false c.loop-i.invariant

@@ -1,0 +1,31 @@
+-- `power` meets its contract: at the loop's head p is the product of i factors, with i in 1..n, and a turn makes it
+-- that of i + 1. The measure is n - i. Assumes nothing.
+use Prim.Native.Nat.{ℕ, zero, suc, ◌+◌, ◌-◌, ◌≤◌}
+use mathlib.Core.Path.{◌≡◌, refl}
+use native.Mathlib.Numerals.{add-one}
+use native.Mathlib.Omega.{arith}
+use lib.Ieee.{Float, of_bits, binary64, mul}
+use Rattle.times.specs.Easings.{power_of}
+use Rattle.times.proofs.tween.power.Goals as goal
+
+-- one factor more
+more : (x : Float) (i : ℕ) → 1 ≤ i → power_of x (i + 1) ≡ mul binary64 (power_of x i) x
+unfolding power_of
+more x zero h = absurd (omega arith)
+more x (suc i) h = rw add-one
+
+pub returns-then-n-eq0 : goal.returns-then-n-eq0
+unfolding power_of of_bits
+returns-then-n-eq0 c = rw c.if-n-eq0.true
+
+pub loop-i-init : goal.loop-i-init
+unfolding power_of
+loop-i-init c = (omega arith, omega arith, refl)
+
+pub loop-i-preserved : goal.loop-i-preserved
+loop-i-preserved c = (omega arith, omega arith, rw (c.loop-i.invariant.2, more c.args.x c.loop-i.i (omega arith)))
+
+pub returns : goal.returns
+returns c =
+    let end : c.loop-i.i ≡ c.args.n = omega arith in
+    rw (c.loop-i.invariant.2, end)
