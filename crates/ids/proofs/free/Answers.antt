@@ -2,12 +2,12 @@
 use Prim.Native.Nat.{◌-◌}
 use native.Mathlib.Omega.{arith}
 use mathlib.Core.Path.{◌≡◌, refl, sym, ◌∙◌}
-use mathlib.Core.Logic.{⊎_elim}
 use lib.ListN.{length}
 use borrow.Author.Tests.{le-ltb}
 use Rattle.ids.specs.Keys.{left_at}
 use Rattle.ids.proofs.Searches.{free_here, free_later, free_none}
 use Rattle.ids.proofs.free.Goals as goal
+use Rattle.ids.proofs.free.Goals.{then-not-k+else-k-lt-LAST, else-not-k}
 
 pub loop-i-init : goal.loop-i-init
 loop-i-init c = (omega arith, refl)
@@ -22,7 +22,7 @@ loop-i-preserved c =
     let e : length c.args.keys ≡ 16 = c.well_formed.0.1.0.1 in (
       omega arith,
       c.loop-i.invariant.1 ∙
-          free_later _ _ (left_at 0) (omega arith) (⊎_elim (λ w. rw (w.0.taken, le-ltb _ _ w.2.left)) (λ w. rw w.left) c.if-not-k.branch),
+          free_later _ _ (left_at 0) (omega arith) (elim c.if-not-k.branch [ then-not-k+else-k-lt-LAST w ↦ rw (w.if-not-k.true, le-ltb _ _ w.if-k-lt-LAST.false) | else-not-k w ↦ rw w.if-not-k.false ]),
     )
 
 pub returns : goal.returns

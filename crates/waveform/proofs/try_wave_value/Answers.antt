@@ -5,9 +5,6 @@ use Rattle.judge.proofs.Judged.{joined, refuses, gives}
 use Rattle.waveform.specs.Waves.{wave_faults, try_wave_value_of}
 use Rattle.waveform.proofs.try_wave_value.Goals as goal
 
-abbrev start : tie.After-both → tie.Start
-start c = c.before.before.before
-
 pub returns-then-n-ne0 : goal.returns-then-n-ne0
 unfolding try_wave_value_of
 returns-then-n-ne0 c = refuses _ _ c.first_fault-n.ensures (joined _ _ c.both.ensures c.wave_faults.ensures c.float_faults.ensures) c.if-n-ne0.true
