@@ -9,9 +9,6 @@ use Rattle.parameter.specs.SpeedParameters.{try_set_of}
 use Rattle.judge.proofs.Judged.{number}
 use Rattle.parameter.proofs.speed.try_set_speed.Goals as goal
 
-abbrev start : tie.After-first-fault → tie.Start
-start c = c.before.before.before.before.before.before.before
-
 pub returns-then-n-ne0 : goal.returns-then-n-ne0
 unfolding try_set_of
 returns-then-n-ne0 c = rw (number c.first_fault-n.ensures

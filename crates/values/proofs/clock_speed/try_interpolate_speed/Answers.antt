@@ -7,9 +7,6 @@ use Rattle.values.specs.Speeds.{speed_faults, read_faults, try_interpolate_speed
 use Rattle.judge.proofs.Judged.{joined, refuses, gives}
 use Rattle.values.proofs.clock_speed.try_interpolate_speed.Goals as goal
 
-abbrev start : tie.After-both3 → tie.Start
-start c = c.before.before.before.before.before.before.before
-
 -- what the code joined
 faults : (c : tie.After-both3) →
     c.both3.result ≡ both_faults (both_faults (both_faults (speed_faults (start c).args.a) (speed_faults (start c).args.b)) (read_faults (start c).args.a (start c).args.b)) (float_faults (start c).args.amount)

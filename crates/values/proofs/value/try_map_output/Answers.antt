@@ -6,9 +6,6 @@ use Rattle.values.specs.Values.{float_map_faults, op_faults, map_output_of, try_
 use Rattle.judge.proofs.Judged.{joined, refuses, gives}
 use Rattle.values.proofs.value.try_map_output.Goals as goal
 
-abbrev start : tie.After-both2 → tie.Start
-start c = c.before.before.before.before.before.before
-
 -- what the code joined
 faults : (c : tie.After-both2) →
     c.both2.result ≡ both_faults (both_faults (float_map_faults (start c).args.m) (op_faults (start c).args.op)) (float_map_faults (map_output_of (start c).args.m (start c).args.op))

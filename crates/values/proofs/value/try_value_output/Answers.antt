@@ -6,9 +6,6 @@ use Rattle.values.specs.Values.{float_value_faults, op_faults, value_output_of, 
 use Rattle.judge.proofs.Judged.{joined, refuses, gives}
 use Rattle.values.proofs.value.try_value_output.Goals as goal
 
-abbrev start : tie.After-both2 → tie.Start
-start c = c.before.before.before.before.before.before
-
 -- what the code joined
 faults : (c : tie.After-both2) →
     c.both2.result ≡ both_faults (both_faults (float_value_faults (start c).args.v) (op_faults (start c).args.op)) (float_value_faults (value_output_of (start c).args.v (start c).args.op))
