@@ -7,8 +7,8 @@ use Rattle.parameter.proofs.float.try_set_float.Goals as goal
 
 pub returns-then-n-ne0 : goal.returns-then-n-ne0
 unfolding try_set_of
-returns-then-n-ne0 c = rw (number c.first_fault-n.ensures c.target_faults.ensures), ne_eqb _ 0 c.if-n-ne0.true)
+returns-then-n-ne0 c = rw (number c.first_fault-n.ensures c.target_faults.ensures, ne_eqb _ 0 c.if-n-ne0.true)
 
 pub returns : goal.returns
 unfolding try_set_of
-returns c = rw (number c.first_fault-n.ensures c.target_faults.ensures), eq-eqb _ 0 c.if-n-ne0.false, c.set_float.ensures)
+returns c = rw (number c.first_fault-n.ensures c.target_faults.ensures, eq-eqb _ 0 c.if-n-ne0.false, c.set_float.ensures)
