@@ -20,7 +20,7 @@ use Rattle.parameter.specs.declared.speed.SpeedSet.{SpeedSet}
 use Rattle.parameter.specs.declared.speed.SpeedState.TheVariants as speed
 use Rattle.parameter.specs.declared.speed.SpeedTweening.{SpeedTweening}
 use Rattle.info.specs.ParametersIn.{try_update_float_in, try_update_speed_in}
-use Rattle.demands.specs.Kinds.{float_kind, speed_kind}
+use Rattle.demands.specs.Kinds.{resting, float_kind, speed_kind}
 use Rattle.demands.proofs.lemmas.Timing.{dt_bad, dt_good, chosen, step_progress, Came, Shape}
 
 -- ---- doubles
@@ -38,7 +38,9 @@ float_shape = record {
   refuses = λ p dt x i e. rw (dt_bad dt e) (refl, refl);
   accepts = λ p dt x i e. rw (dt_good dt e) refl;
   steps =
-      float_cases _ (λ v y n dt x i e h. rw (dt_good dt e) (elim n [ true ↦ (refl, tt) | false ↦ (refl, tt) ]))
+      float_cases _
+      (λ v y n dt x i e h. rw (dt_good dt e)
+      (elim n as (λ k. Came float_kind (λ p. p.stagnant) (floats.update_of (record { state = float.Idle v; raw = y; stagnant = k }) dt x i).parameter resting) [ true ↦ (refl, tt) | false ↦ (refl, tt) ]))
       (λ t y n dt x i e h. rw (dt_good dt e, h)
       (elim (step_of t.course dt x) as (λ s. Came float_kind (λ p. p.stagnant) (floats.by_step t s i y).parameter (step_progress s)) [ Waits c ↦ (refl, refl) | Goes c ↦ (refl, refl) | Ends ↦ (refl, tt) ]));
   sets = λ p v w a.
@@ -61,7 +63,9 @@ speed_shape = record {
   refuses = λ p dt x i e. rw (dt_bad dt e) (refl, refl);
   accepts = λ p dt x i e. rw (dt_good dt e) refl;
   steps =
-      speed_cases _ (λ v y n dt x i e h. rw (dt_good dt e) (elim n [ true ↦ (refl, tt) | false ↦ (refl, tt) ]))
+      speed_cases _
+      (λ v y n dt x i e h. rw (dt_good dt e)
+      (elim n as (λ k. Came speed_kind (λ p. p.stagnant) (speeds.update_of (record { state = speed.Idle v; raw = y; stagnant = k }) dt x i).parameter resting) [ true ↦ (refl, tt) | false ↦ (refl, tt) ]))
       (λ t y n dt x i e h. rw (dt_good dt e, h)
       (elim (step_of t.course dt x) as (λ s. Came speed_kind (λ p. p.stagnant) (speeds.by_step t s i y).parameter (step_progress s)) [ Waits c ↦ (refl, refl) | Goes c ↦ (refl, refl) | Ends ↦ (refl, tt) ]));
   sets = λ p v w a.
