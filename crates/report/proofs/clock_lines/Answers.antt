@@ -7,7 +7,7 @@ use Rattle.report.proofs.clock_lines.Goals as goal
 pub returns : goal.returns
 returns c =
     (
-      rw (c.started.ensures, c.position.ensures) PLACE c.lines.ensures,
+      rw (c.started.ensures, c.position.ensures) at c.lines.ensures,
       longest c.args.id c.args.c
           c.requires
           (omega (arith, c.well_formed.1.1.0.1.1.1.0.1))
