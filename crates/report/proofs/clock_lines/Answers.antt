@@ -11,5 +11,5 @@ returns c =
       longest c.args.id c.args.c
           c.requires
           (omega (arith, c.well_formed.1.1.0.1.1.1.0.1))
-          (rw (← c.position.ensures) (omega (arith, c.position.type-inv))),
+          (rw (← c.position.ensures) (omega (arith, c.position.type_inv))),
     )

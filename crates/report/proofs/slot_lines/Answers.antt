@@ -1,12 +1,12 @@
 -- `report::slot_lines` is proved: the clock's lines where the slot is used, and else none. Assumes nothing.
-use borrow.Author.Tests.{not-true, not-false}
+
 use native.Mathlib.Omega.{arith}
 use mathlib.Core.Path.{refl}
 use Rattle.report.proofs.slot_lines.Goals as goal
 
 pub returns-then-not-k : goal.returns-then-not-k
-returns-then-not-k c = rw (not-true c.args.k.used c.if-not-k.true) (refl, omega arith)
+returns-then-not-k c = rw (c.if-not-k.true) (refl, omega arith)
 
 pub returns : goal.returns
 returns c =
-    rw (not-false c.args.k.used c.if-not-k.false) c.clock_lines.ensures
+    rw (c.if-not-k.false) c.clock_lines.ensures
