@@ -2,7 +2,6 @@
 use mathlib.Core.Path.{sym, ◌∙◌}
 use Rattle.grammar.specs.Grammar.{float_value_at}
 use Rattle.grammar.proofs.Places.{first}
-
 use Rattle.grammar.proofs.float_value.Goals as goal
 
 pub returns-in_default : goal.returns-in_default

@@ -2,7 +2,6 @@
 use mathlib.Core.Path.{sym, ◌∙◌}
 use Rattle.grammar.specs.Grammar.{start_at}
 use Rattle.grammar.proofs.Places.{first}
-
 use Rattle.grammar.proofs.start.Goals as goal
 
 pub returns-then-is : goal.returns-then-is
