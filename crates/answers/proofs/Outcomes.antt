@@ -13,7 +13,7 @@ use Rattle.answers.proofs.start.Reads as start
 use Rattle.answers.proofs.start.Kinds as start-kinds
 use Rattle.answers.proofs.float_map.Reads as float-map
 use Rattle.answers.proofs.float_map.Kinds as float-map-kinds
-use Rattle.answers.proofs.float_value.Reads as float_value_lem
+use Rattle.answers.proofs.float_value.Reads as float_value
 use Rattle.answers.proofs.float_value.Kinds as float-value-kinds
 use Rattle.answers.proofs.refused.Reads as refused
 use Rattle.answers.proofs.refused.Kinds as refused-kinds

@@ -25,7 +25,7 @@ use Rattle.grammar.proofs.float_map.Reads as float-map
 use Rattle.grammar.proofs.float_map.Kinds as float-map-kinds
 use Rattle.grammar.proofs.speed_map.Reads as speed-map
 use Rattle.grammar.proofs.speed_map.Kinds as speed-map-kinds
-use Rattle.grammar.proofs.float_value.Reads as float_value_lem
+use Rattle.grammar.proofs.float_value.Reads as float_value
 use Rattle.grammar.proofs.float_value.Kinds as float-value-kinds
 use Rattle.grammar.proofs.wave.Reads as wave
 use Rattle.grammar.proofs.wave.Kinds as wave-kinds

@@ -1,7 +1,6 @@
--- Any two outcomes that a statement allows coincide. The borrow checker does not cover these functions, so the check
--- makes no `Reads` and no `Kinds` of them, over which the `One` of the crate `doubles` stands. Here `One` is stated of
--- the very `clauses` that the check makes of the source: at every model the `ensures` is one plain fact, by
--- computation, and antt reads it off, so there is no copy of it to go stale. RULES, one-outcome. Assumes nothing.
+-- Any two outcomes that a statement allows coincide. Here `One` is stated of the very `clauses` that the check makes of
+-- the source: at every model the `ensures` is one plain fact, by computation, and antt reads it off, so there is no
+-- copy of it to go stale. RULES, one-outcome. Assumes nothing.
 use Prim.Native.Nat.{ℕ}
 use mathlib.Core.Path.{◌≡◌, refl}
 use mathlib.Core.List.{List}
@@ -36,13 +35,13 @@ module _ (T : Ended) (c : (M : Type 1) (𝓤 : Ura M) (𝓛 : Logic 𝓤) → (M
   abbrev pub One : Reading → Type 0
   One reads = (κs : Lfts S.lifetimes) (a : Args S κs) (x y : Res S κs) (s t : AtExit T κs) → (reads κs a x s).0 → (reads κs a y t).0 → x ≡ y
 
-abbrev pub new_reads : Reading new.ended (λ M. new.clauses)
+abbrev pub new_reads : Reading new.ended (λ M 𝓤. new.clauses)
 new_reads κs a x s = (_, λ M 𝓤 𝓛 mem run g. refl)
 
-abbrev pub next_reads : Reading next.ended (λ M. next.clauses)
+abbrev pub next_reads : Reading next.ended (λ M 𝓤. next.clauses)
 next_reads κs a x s = (_, λ M 𝓤 𝓛 mem run g. refl)
 
-abbrev pub moved_reads : Reading moved.ended (λ M. moved.clauses)
+abbrev pub moved_reads : Reading moved.ended (λ M 𝓤. moved.clauses)
 moved_reads κs a x s = (_, λ M 𝓤 𝓛 mem run g. refl)
 
 same_reader : (s t : Bor (List ℕ)) (m n : ℕ) → s ≡ t → m ≡ n → ◌≡◌ {A = Reader} (record { trace = s; at = m }) (record { trace = t; at = n })
@@ -52,11 +51,11 @@ same_reader s t m n p q = rw (p, q)
 by_fields : (x y : Reader) {s : Bor (List ℕ)} {n : ℕ} → (x.trace ≡ s) × (x.at ≡ n) → (y.trace ≡ s) × (y.at ≡ n) → x ≡ y
 by_fields x y p q = same_reader x.trace y.trace x.at y.at (equal p.0 q.0) (equal p.1 q.1)
 
-pub one_new : One new.ended (λ M. new.clauses) new_reads
+pub one_new : One new.ended (λ M 𝓤. new.clauses) new_reads
 one_new κs a x y s t = by_fields x y
 
-pub one_next : One next.ended (λ M. next.clauses) next_reads
+pub one_next : One next.ended (λ M 𝓤. next.clauses) next_reads
 one_next κs a x y s t = equal
 
-pub one_moved : One moved.ended (λ M. moved.clauses) moved_reads
+pub one_moved : One moved.ended (λ M 𝓤. moved.clauses) moved_reads
 one_moved κs a x y s t = by_fields x y

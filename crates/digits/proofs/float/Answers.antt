@@ -4,4 +4,4 @@ use Rattle.digits.proofs.float.Goals as goal
 
 pub returns : goal.returns
 returns c =
-    rw (← float_is c.args.x c.bits.result c.hex-count.result c.bits.ensures c.bits.type-inv c.hex-count.ensures.1.0 c.hex-count.ensures.1.1) c.put.ensures
+    rw (← float_is c.args.x c.bits.result c.hex-count.result c.bits.ensures c.bits.type_inv c.hex-count.ensures.len c.hex-count.ensures.digits) c.put.ensures

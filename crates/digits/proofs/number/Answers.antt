@@ -4,4 +4,4 @@ use Rattle.digits.proofs.number.Goals as goal
 
 pub returns : goal.returns
 returns c =
-    rw (← number_is c.args.n c.decimal-count.result c.decimal-count.ensures.1.0 c.decimal-count.ensures.1.1) c.put.ensures
+    rw (← number_is c.args.n c.decimal-count.result c.decimal-count.ensures.len c.decimal-count.ensures.digits) c.put.ensures

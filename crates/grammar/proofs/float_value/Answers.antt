@@ -2,7 +2,6 @@
 use mathlib.Core.Path.{sym, ◌∙◌}
 use Rattle.grammar.specs.Grammar.{float_value_at}
 use Rattle.grammar.proofs.Places.{first}
-use borrow.Author.Tests.{not-true, not-false}
 use Rattle.grammar.proofs.float_value.Goals as goal
 
 pub returns-in_default : goal.returns-in_default
@@ -18,14 +17,14 @@ returns-then-is c =
 pub returns-then-not-is : goal.returns-then-not-is
 unfolding float_value_at
 returns-then-not-is c =
-    first _ _ _ c.next_word-w.ensures (rw (sym c.is.ensures ∙ c.if-is.false, sym c.is-2.ensures ∙ not-true c.is-2.result c.if-not-is.true))
+    first _ _ _ c.next_word-w.ensures (rw (sym c.is.ensures ∙ c.if-is.false, sym c.is-2.ensures ∙ c.if-not-is.true))
 
 pub returns-in_default-id : goal.returns-in_default-id
 unfolding float_value_at
 returns-in_default-id c =
     first _ _ _ c.next_word-w.ensures (rw (
       sym c.is.ensures ∙ c.if-is.false,
-      sym c.is-2.ensures ∙ not-false c.is-2.result c.if-not-is.false,
+      sym c.is-2.ensures ∙ c.if-not-is.false,
       sym c.id.ensures ∙ c.in_default-id.is,
     ))
 
@@ -34,7 +33,7 @@ unfolding float_value_at
 returns-in_default-float_map c =
     first _ _ _ c.next_word-w.ensures (rw (
       sym c.is.ensures ∙ c.if-is.false,
-      sym c.is-2.ensures ∙ not-false c.is-2.result c.if-not-is.false,
+      sym c.is-2.ensures ∙ c.if-not-is.false,
       sym c.id.ensures ∙ c.in-Is-id.is,
       sym c.float_map.ensures ∙ c.in_default-float_map.is,
     ))
@@ -44,7 +43,7 @@ unfolding float_value_at
 returns c =
     first _ _ _ c.next_word-w.ensures (rw (
       sym c.is.ensures ∙ c.if-is.false,
-      sym c.is-2.ensures ∙ not-false c.is-2.result c.if-not-is.false,
+      sym c.is-2.ensures ∙ c.if-not-is.false,
       sym c.id.ensures ∙ c.in-Is-id.is,
       sym c.float_map.ensures ∙ c.in-Is-float_map.is,
     ))

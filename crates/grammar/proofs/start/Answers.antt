@@ -2,7 +2,6 @@
 use mathlib.Core.Path.{sym, ◌∙◌}
 use Rattle.grammar.specs.Grammar.{start_at}
 use Rattle.grammar.proofs.Places.{first}
-use borrow.Author.Tests.{not-true, not-false}
 use Rattle.grammar.proofs.start.Goals as goal
 
 pub returns-then-is : goal.returns-then-is
@@ -24,7 +23,7 @@ returns-then-not-is c =
     first _ _ _ c.next_word-w.ensures (rw (
       sym c.is.ensures ∙ c.if-is.false,
       sym c.is-2.ensures ∙ c.if-is-2.false,
-      sym c.is-3.ensures ∙ not-true c.is-3.result c.if-not-is.true,
+      sym c.is-3.ensures ∙ c.if-not-is.true,
     ))
 
 pub returns-in_default : goal.returns-in_default
@@ -33,7 +32,7 @@ returns-in_default c =
     first _ _ _ c.next_word-w.ensures (rw (
       sym c.is.ensures ∙ c.if-is.false,
       sym c.is-2.ensures ∙ c.if-is-2.false,
-      sym c.is-3.ensures ∙ not-false c.is-3.result c.if-not-is.false,
+      sym c.is-3.ensures ∙ c.if-not-is.false,
       sym c.clock_time.ensures ∙ c.in_default.is,
     ))
 
@@ -43,6 +42,6 @@ returns c =
     first _ _ _ c.next_word-w.ensures (rw (
       sym c.is.ensures ∙ c.if-is.false,
       sym c.is-2.ensures ∙ c.if-is-2.false,
-      sym c.is-3.ensures ∙ not-false c.is-3.result c.if-not-is.false,
+      sym c.is-3.ensures ∙ c.if-not-is.false,
       sym c.clock_time.ensures ∙ c.in-Is.is,
     ))

@@ -2,7 +2,6 @@
 use mathlib.Core.Path.{sym, ◌∙◌}
 use Rattle.grammar.specs.Grammar.{wave_at}
 use Rattle.grammar.proofs.Places.{first}
-use borrow.Author.Tests.{not-true, not-false}
 use Rattle.grammar.proofs.wave.Goals as goal
 
 pub returns-then-is : goal.returns-then-is
@@ -20,7 +19,7 @@ returns-then-not-is c =
     first _ _ _ c.next_word-w.ensures (rw (
       sym c.is.ensures ∙ c.if-is.false,
       sym c.is-2.ensures ∙ c.if-is-2.false,
-      sym c.is-3.ensures ∙ not-true c.is-3.result c.if-not-is.true,
+      sym c.is-3.ensures ∙ c.if-not-is.true,
     ))
 
 pub returns-in_default : goal.returns-in_default
@@ -29,7 +28,7 @@ returns-in_default c =
     first _ _ _ c.next_word-w.ensures (rw (
       sym c.is.ensures ∙ c.if-is.false,
       sym c.is-2.ensures ∙ c.if-is-2.false,
-      sym c.is-3.ensures ∙ not-false c.is-3.result c.if-not-is.false,
+      sym c.is-3.ensures ∙ c.if-not-is.false,
       sym c.float.ensures ∙ c.in_default.is,
     ))
 
@@ -39,6 +38,6 @@ returns c =
     first _ _ _ c.next_word-w.ensures (rw (
       sym c.is.ensures ∙ c.if-is.false,
       sym c.is-2.ensures ∙ c.if-is-2.false,
-      sym c.is-3.ensures ∙ not-false c.is-3.result c.if-not-is.false,
+      sym c.is-3.ensures ∙ c.if-not-is.false,
       sym c.float.ensures ∙ c.in-Is.is,
     ))

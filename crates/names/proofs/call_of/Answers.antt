@@ -2,6 +2,8 @@
 use borrow.Author.Tests.{ne_eqb}
 use mathlib.Core.Path.{refl, ◌∙◌}
 use mathlib.Core.List.{[], ◌++◌}
+use lib.ListN.{get_or}
+use native.Mathlib.Omega.{arith}
 use Rattle.names.specs.Names.{call_of, rows, rows_c, rows_d, rows_e, rows_f, rows_l, rows_m, rows_n, rows_s, rows_t, rows_v, rows_w}
 use Rattle.names.specs.declared.Call.TheVariants as call
 use Rattle.names.proofs.Rows.{avoids, missing, found}
@@ -58,16 +60,17 @@ returns-in-119 c = c.rows_w.ensures ∙ found 0x77 _ call.None (rows_c ++ (rows_
 pub returns-in_default : goal.returns-in_default
 unfolding call_of avoids
 returns-in_default c =
+    let first = get_or c.args.word.now 0 0 in
     missing _ _ call.None rows (λ _. refl) (rw (
-      ne_eqb _ 0x63 c.in-99.rest.0.0.0.0.0.0.0.0.0.0.1,
-      ne_eqb _ 0x64 c.in-99.rest.0.0.0.0.0.0.0.0.0.1,
-      ne_eqb _ 0x65 c.in-99.rest.0.0.0.0.0.0.0.0.1,
-      ne_eqb _ 0x66 c.in-99.rest.0.0.0.0.0.0.0.1,
-      ne_eqb _ 0x6c c.in-99.rest.0.0.0.0.0.0.1,
-      ne_eqb _ 0x6d c.in-99.rest.0.0.0.0.0.1,
-      ne_eqb _ 0x6e c.in-99.rest.0.0.0.0.1,
-      ne_eqb _ 0x73 c.in-99.rest.0.0.0.1,
-      ne_eqb _ 0x74 c.in-99.rest.0.0.1,
-      ne_eqb _ 0x76 c.in-99.rest.0.1,
-      ne_eqb _ 0x77 c.in-99.rest.1,
+      ne_eqb first 0x63 (omega arith),
+      ne_eqb first 0x64 (omega arith),
+      ne_eqb first 0x65 (omega arith),
+      ne_eqb first 0x66 (omega arith),
+      ne_eqb first 0x6c (omega arith),
+      ne_eqb first 0x6d (omega arith),
+      ne_eqb first 0x6e (omega arith),
+      ne_eqb first 0x73 (omega arith),
+      ne_eqb first 0x74 (omega arith),
+      ne_eqb first 0x76 (omega arith),
+      ne_eqb first 0x77 (omega arith),
     ))

@@ -15,12 +15,12 @@ returns-in-No c =
 pub returns-in-Is-decimal_behind : goal.returns-in-Is-decimal_behind
 unfolding judge_of
 returns-in-Is-decimal_behind c =
-    rw (c.in-Slot.is, ← c.??Limits-of.ensures, ← c.decimal_behind.ensures, c.in-Is-decimal_behind.is)
+    rw (c.in-Slot.is, ← c.limits_of.ensures, ← c.decimal_behind.ensures, c.in-Is-decimal_behind.is)
 
 pub returns-in-No-decimal_behind : goal.returns-in-No-decimal_behind
 unfolding judge_of
 returns-in-No-decimal_behind c =
-    rw (c.in-Slot.is, ← c.??Limits-of.ensures, ← c.decimal_behind.ensures, c.in-No-decimal_behind.is)
+    rw (c.in-Slot.is, ← c.limits_of.ensures, ← c.decimal_behind.ensures, c.in-No-decimal_behind.is)
 
 pub returns-in-Is-decimal_behind-2 : goal.returns-in-Is-decimal_behind-2
 unfolding judge_of

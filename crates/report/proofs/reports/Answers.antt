@@ -1,6 +1,5 @@
 -- `report::reports` is proved. The loop's invariant: what is put so far, with the lines of the slots that are left
 -- behind it, is the lines of all slots, and the slots so far have no more than 96 bytes each. Assumes nothing.
-use Prim.Native.Nat.{◌-◌}
 use native.Mathlib.Omega.{arith}
 use mathlib.Core.Path.{refl, ◌∙◌}
 use Rattle.clock_table.proofs.Slots.{sixteen}
@@ -15,11 +14,10 @@ loop-i-init c = (omega arith, refl, all_left _ _)
 
 pub loop-i-preserved : goal.loop-i-preserved
 loop-i-preserved c =
-    let many = sixteen c.args.t _ c.well_formed.0 in
-    (
+    let many = sixteen c.args.t _ c.well_formed.0 in (
       omega arith,
-      c.slot_lines-at.auto.0 ∙ c.loop-i.invariant.1,
-      slot_put c.args.t c.loop-i.i _ _ (omega (arith, many.keys)) (omega (arith, many.clocks)) _ _ c.slot_lines-at.ensures.1 c.slot_lines-at.ensures.0 c.loop-i.invariant.2,
+      c.slot_lines-at.auto.out ∙ c.loop-i.invariant.1,
+      slot_put c.args.t c.loop-i.i _ _ (omega (arith, many.keys)) (omega (arith, many.clocks)) _ _ c.slot_lines-at.ensures.c_len_bound c.slot_lines-at.ensures.result_after c.loop-i.invariant.2,
     )
 
 pub returns : goal.returns

@@ -5,8 +5,11 @@ use mathlib.Core.Path.{refl}
 use Rattle.report.proofs.slot_lines.Goals as goal
 
 pub returns-then-not-k : goal.returns-then-not-k
-returns-then-not-k c = rw (not-true c.args.k.used c.if-not-k.true) (refl, omega arith)
+returns-then-not-k c =
+    let unused = not-true c.args.k.used c.if-not-k.true in
+    record { result_after = rw unused refl; c_len_bound = rw unused (omega arith) }
 
 pub returns : goal.returns
 returns c =
-    rw (not-false c.args.k.used c.if-not-k.false) c.clock_lines.ensures
+    let used = not-false c.args.k.used c.if-not-k.false in
+    record { result_after = rw used c.clock_lines.ensures.result_after; c_len_bound = rw used c.clock_lines.ensures.c_len_bound }

@@ -1,16 +1,15 @@
 -- `curves::default_tween` is proved: the line ends, and the tween is the default. Assumes nothing.
 use mathlib.Core.Path.{sym, ◌∙◌}
-use borrow.Author.Tests.{not-true, not-false}
 use Rattle.calls.specs.Calls.{default_reply}
 use Rattle.calls.proofs.Replies.{default_put}
 use Rattle.calls.proofs.curves.default_tween.Goals as goal
 
 pub returns-then-not-ended : goal.returns-then-not-ended
 unfolding default_reply
-returns-then-not-ended c = rw (sym c.ended.ensures ∙ not-true c.ended.result c.if-not-ended.true)
+returns-then-not-ended c = rw (sym c.ended.ensures ∙ c.if-not-ended.true)
 
 pub returns : goal.returns
 unfolding default_reply
 returns c =
-    rw (sym c.ended.ensures ∙ not-false c.ended.result c.if-not-ended.false)
+    rw (sym c.ended.ensures ∙ c.if-not-ended.false)
     (default_put _ _ c.tween.ensures c.default_tween.ensures)

@@ -1,6 +1,5 @@
 -- `curves::lerp` is proved: the three doubles are read, and the line ends behind them. Assumes nothing.
 use mathlib.Core.Path.{sym, ◌∙◌}
-use borrow.Author.Tests.{not-true, not-false}
 use Rattle.calls.specs.Calls.{lerp_reply}
 use Rattle.calls.proofs.Replies.{float_put}
 use Rattle.calls.proofs.curves.lerp.Goals as goal
@@ -33,7 +32,7 @@ returns-then-not-ended c =
       sym c.float.ensures ∙ c.in-Is.is,
       sym c.float-2.ensures ∙ c.in-Is-float.is,
       sym c.float-3.ensures ∙ c.in-Is-float-2.is,
-      sym c.ended.ensures ∙ not-true c.ended.result c.if-not-ended.true,
+      sym c.ended.ensures ∙ c.if-not-ended.true,
     )
 
 pub returns : goal.returns
@@ -43,5 +42,5 @@ returns c =
       sym c.float.ensures ∙ c.in-Is.is,
       sym c.float-2.ensures ∙ c.in-Is-float.is,
       sym c.float-3.ensures ∙ c.in-Is-float-2.is,
-      sym c.ended.ensures ∙ not-false c.ended.result c.if-not-ended.false,
+      sym c.ended.ensures ∙ c.if-not-ended.false,
     ) (float_put _ c.try_interpolate.result c.floated.ensures c.try_interpolate.ensures)

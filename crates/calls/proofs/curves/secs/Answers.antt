@@ -1,6 +1,5 @@
 -- `curves::secs` is proved: the duration is read, and the line ends behind it. Assumes nothing.
 use mathlib.Core.Path.{sym, ◌∙◌}
-use borrow.Author.Tests.{not-true, not-false}
 use Rattle.calls.specs.Calls.{secs_reply}
 use Rattle.calls.proofs.Replies.{float_put}
 use Rattle.calls.proofs.curves.secs.Goals as goal
@@ -14,7 +13,7 @@ unfolding secs_reply
 returns-then-not-ended c =
     rw (
       sym c.number.ensures ∙ c.in-Is.is,
-      sym c.ended.ensures ∙ not-true c.ended.result c.if-not-ended.true,
+      sym c.ended.ensures ∙ c.if-not-ended.true,
     )
 
 pub returns : goal.returns
@@ -22,5 +21,5 @@ unfolding secs_reply
 returns c =
     rw (
       sym c.number.ensures ∙ c.in-Is.is,
-      sym c.ended.ensures ∙ not-false c.ended.result c.if-not-ended.false,
+      sym c.ended.ensures ∙ c.if-not-ended.false,
     ) (float_put _ c.try_as_secs_f64.result c.floated.ensures c.try_as_secs_f64.ensures)

@@ -1,6 +1,5 @@
 -- `curves::wave` is proved: the waveform and the phase are read, and the line ends behind them. Assumes nothing.
 use mathlib.Core.Path.{sym, ◌∙◌}
-use borrow.Author.Tests.{not-true, not-false}
 use Rattle.calls.specs.Calls.{wave_reply}
 use Rattle.calls.proofs.Replies.{float_put}
 use Rattle.calls.proofs.curves.wave.Goals as goal
@@ -23,7 +22,7 @@ returns-then-not-ended c =
     rw (
       sym c.wave.ensures ∙ c.in-Is.is,
       sym c.float.ensures ∙ c.in-Is-float.is,
-      sym c.ended.ensures ∙ not-true c.ended.result c.if-not-ended.true,
+      sym c.ended.ensures ∙ c.if-not-ended.true,
     )
 
 pub returns : goal.returns
@@ -32,5 +31,5 @@ returns c =
     rw (
       sym c.wave.ensures ∙ c.in-Is.is,
       sym c.float.ensures ∙ c.in-Is-float.is,
-      sym c.ended.ensures ∙ not-false c.ended.result c.if-not-ended.false,
+      sym c.ended.ensures ∙ c.if-not-ended.false,
     ) (float_put _ c.try_wave_value.result c.floated.ensures c.try_wave_value.ensures)

@@ -1,7 +1,6 @@
 -- `floats::call` is proved: the double is read, the line ends behind it, and the call has its function. Assumes
 -- nothing.
 use mathlib.Core.Path.{sym, ◌∙◌}
-use borrow.Author.Tests.{not-true, not-false}
 use Rattle.calls.specs.Calls.{floats_of}
 use Rattle.calls.proofs.Replies.{line_put}
 use Rattle.calls.proofs.floats.call.Goals as goal
@@ -15,7 +14,7 @@ unfolding floats_of
 returns-then-not-ended c =
     rw (
       sym c.float.ensures ∙ c.in-Is.is,
-      sym c.ended.ensures ∙ not-true c.ended.result c.if-not-ended.true,
+      sym c.ended.ensures ∙ c.if-not-ended.true,
     )
 
 pub returns-in-Trunc : goal.returns-in-Trunc
@@ -23,7 +22,7 @@ unfolding floats_of
 returns-in-Trunc c =
     rw (
       sym c.float.ensures ∙ c.in-Is.is,
-      sym c.ended.ensures ∙ not-false c.ended.result c.if-not-ended.false,
+      sym c.ended.ensures ∙ c.if-not-ended.false,
       c.in-Trunc.is,
     ) (line_put _ c.answer.ensures c.whole.ensures)
 
@@ -32,7 +31,7 @@ unfolding floats_of
 returns-in-Fract c =
     rw (
       sym c.float.ensures ∙ c.in-Is.is,
-      sym c.ended.ensures ∙ not-false c.ended.result c.if-not-ended.false,
+      sym c.ended.ensures ∙ c.if-not-ended.false,
       c.in-Fract.is,
     ) (line_put _ c.answer-in-Fract.ensures c.fract.ensures)
 
@@ -41,7 +40,7 @@ unfolding floats_of
 returns-in-Ceil c =
     rw (
       sym c.float.ensures ∙ c.in-Is.is,
-      sym c.ended.ensures ∙ not-false c.ended.result c.if-not-ended.false,
+      sym c.ended.ensures ∙ c.if-not-ended.false,
       c.in-Ceil.is,
     ) (line_put _ c.answer-in-Ceil.ensures c.ceil.ensures)
 
@@ -50,7 +49,7 @@ unfolding floats_of
 returns-in-Abs c =
     rw (
       sym c.float.ensures ∙ c.in-Is.is,
-      sym c.ended.ensures ∙ not-false c.ended.result c.if-not-ended.false,
+      sym c.ended.ensures ∙ c.if-not-ended.false,
       c.in-Abs.is,
     ) (line_put _ c.answer-in-Abs.ensures c.abs.ensures)
 
@@ -59,6 +58,6 @@ unfolding floats_of
 returns-in-Clamp c =
     rw (
       sym c.float.ensures ∙ c.in-Is.is,
-      sym c.ended.ensures ∙ not-false c.ended.result c.if-not-ended.false,
+      sym c.ended.ensures ∙ c.if-not-ended.false,
       c.in-Clamp.is,
     ) (line_put _ c.answer-in-Clamp.ensures c.clamp01.ensures)

@@ -1,7 +1,6 @@
 -- `speeds::between` is proved: the second speed and the amount are read, and the line ends behind them. Assumes
 -- nothing.
 use mathlib.Core.Path.{sym, ◌∙◌}
-use borrow.Author.Tests.{not-true, not-false}
 use Rattle.calls.specs.Calls.{between_reply}
 use Rattle.calls.proofs.Replies.{speed_put}
 use Rattle.calls.proofs.speeds.between.Goals as goal
@@ -24,7 +23,7 @@ returns-then-not-ended c =
     rw (
       sym c.speed.ensures ∙ c.in-Is.is,
       sym c.float.ensures ∙ c.in-Is-float.is,
-      sym c.ended.ensures ∙ not-true c.ended.result c.if-not-ended.true,
+      sym c.ended.ensures ∙ c.if-not-ended.true,
     )
 
 pub returns : goal.returns
@@ -33,5 +32,5 @@ returns c =
     rw (
       sym c.speed.ensures ∙ c.in-Is.is,
       sym c.float.ensures ∙ c.in-Is-float.is,
-      sym c.ended.ensures ∙ not-false c.ended.result c.if-not-ended.false,
+      sym c.ended.ensures ∙ c.if-not-ended.false,
     ) (speed_put _ c.try_interpolate_speed.result c.speeded.ensures c.try_interpolate_speed.ensures)

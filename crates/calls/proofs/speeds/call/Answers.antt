@@ -1,6 +1,5 @@
 -- `speeds::call` is proved: the speed is read, the line ends behind it, and the call has its unit. Assumes nothing.
 use mathlib.Core.Path.{sym, ◌∙◌}
-use borrow.Author.Tests.{not-true, not-false}
 use Rattle.calls.specs.Calls.{speeds_of}
 use Rattle.calls.proofs.Replies.{float_put}
 use Rattle.calls.proofs.speeds.call.Goals as goal
@@ -14,7 +13,7 @@ unfolding speeds_of
 returns-then-not-ended c =
     rw (
       sym c.speed.ensures ∙ c.in-Is.is,
-      sym c.ended.ensures ∙ not-true c.ended.result c.if-not-ended.true,
+      sym c.ended.ensures ∙ c.if-not-ended.true,
     )
 
 pub returns-in-Spt : goal.returns-in-Spt
@@ -22,7 +21,7 @@ unfolding speeds_of
 returns-in-Spt c =
     rw (
       sym c.speed.ensures ∙ c.in-Is.is,
-      sym c.ended.ensures ∙ not-false c.ended.result c.if-not-ended.false,
+      sym c.ended.ensures ∙ c.if-not-ended.false,
       c.in-Spt.is,
     ) (float_put _ c.try_as_seconds_per_tick.result c.floated.ensures c.try_as_seconds_per_tick.ensures)
 
@@ -31,7 +30,7 @@ unfolding speeds_of
 returns-in-Tps c =
     rw (
       sym c.speed.ensures ∙ c.in-Is.is,
-      sym c.ended.ensures ∙ not-false c.ended.result c.if-not-ended.false,
+      sym c.ended.ensures ∙ c.if-not-ended.false,
       c.in-Tps.is,
     ) (float_put _ c.try_as_ticks_per_second.result c.floated-in-Tps.ensures c.try_as_ticks_per_second.ensures)
 
@@ -40,6 +39,6 @@ unfolding speeds_of
 returns-in-Tpm c =
     rw (
       sym c.speed.ensures ∙ c.in-Is.is,
-      sym c.ended.ensures ∙ not-false c.ended.result c.if-not-ended.false,
+      sym c.ended.ensures ∙ c.if-not-ended.false,
       c.in-Tpm.is,
     ) (float_put _ c.try_as_ticks_per_minute.result c.floated-in-Tpm.ensures c.try_as_ticks_per_minute.ensures)

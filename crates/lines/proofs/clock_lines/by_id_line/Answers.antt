@@ -1,6 +1,5 @@
 -- `clock_lines::by_id_line` is proved: the id is read, and the line ends behind it. Assumes nothing.
 use mathlib.Core.Path.{sym, ◌∙◌}
-use borrow.Author.Tests.{not-true, not-false}
 use Rattle.lines.specs.ClockLines.{by_id_line}
 use Rattle.lines.proofs.clock_lines.by_id_line.Goals as goal
 
@@ -13,7 +12,7 @@ unfolding by_id_line
 returns-then-not-ended c =
     rw (
       sym c.id.ensures ∙ c.in-Is.is,
-      sym c.ended.ensures ∙ not-true c.ended.result c.if-not-ended.true,
+      sym c.ended.ensures ∙ c.if-not-ended.true,
     )
 
 pub returns : goal.returns
@@ -21,6 +20,6 @@ unfolding by_id_line
 returns c =
     rw (
       sym c.id.ensures ∙ c.in-Is.is,
-      sym c.ended.ensures ∙ not-false c.ended.result c.if-not-ended.false,
+      sym c.ended.ensures ∙ c.if-not-ended.false,
       c.command.ensures,
     )

@@ -1,7 +1,6 @@
 -- `clock_lines::set_speed_line` is proved: the id, the speed and the tween are read, and the line ends behind them.
 -- Assumes nothing.
 use mathlib.Core.Path.{sym, ◌∙◌}
-use borrow.Author.Tests.{not-true, not-false}
 use Rattle.lines.specs.ClockLines.{set_speed_line}
 use Rattle.lines.proofs.clock_lines.set_speed_line.Goals as goal
 
@@ -30,7 +29,7 @@ returns-then-not-ended c =
       sym c.id.ensures ∙ c.in-Is.is,
       sym c.speed_value.ensures ∙ c.in-Is-speed_value.is,
       sym c.tween.ensures ∙ c.in-Is-tween.is,
-      sym c.ended.ensures ∙ not-true c.ended.result c.if-not-ended.true,
+      sym c.ended.ensures ∙ c.if-not-ended.true,
     )
 
 pub returns : goal.returns
@@ -40,5 +39,5 @@ returns c =
       sym c.id.ensures ∙ c.in-Is.is,
       sym c.speed_value.ensures ∙ c.in-Is-speed_value.is,
       sym c.tween.ensures ∙ c.in-Is-tween.is,
-      sym c.ended.ensures ∙ not-false c.ended.result c.if-not-ended.false,
+      sym c.ended.ensures ∙ c.if-not-ended.false,
     )

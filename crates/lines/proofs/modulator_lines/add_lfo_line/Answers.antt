@@ -1,7 +1,6 @@
 -- `modulator_lines::add_lfo_line` is proved: the waveform, the three values and the phase are read, and the line ends
 -- behind them. Assumes nothing.
 use mathlib.Core.Path.{sym, ◌∙◌}
-use borrow.Author.Tests.{not-true, not-false}
 use Rattle.lines.specs.ModulatorLines.{add_lfo_line}
 use Rattle.lines.proofs.modulator_lines.add_lfo_line.Goals as goal
 
@@ -53,7 +52,7 @@ returns-then-not-ended c =
       sym c.float_value-2.ensures ∙ c.in-Is-float_value-2.is,
       sym c.float_value-3.ensures ∙ c.in-Is-float_value-3.is,
       sym c.float.ensures ∙ c.in-Is-float.is,
-      sym c.ended.ensures ∙ not-true c.ended.result c.if-not-ended.true,
+      sym c.ended.ensures ∙ c.if-not-ended.true,
     )
 
 pub returns : goal.returns
@@ -65,5 +64,5 @@ returns c =
       sym c.float_value-2.ensures ∙ c.in-Is-float_value-2.is,
       sym c.float_value-3.ensures ∙ c.in-Is-float_value-3.is,
       sym c.float.ensures ∙ c.in-Is-float.is,
-      sym c.ended.ensures ∙ not-false c.ended.result c.if-not-ended.false,
+      sym c.ended.ensures ∙ c.if-not-ended.false,
     )

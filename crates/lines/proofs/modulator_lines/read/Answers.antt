@@ -1,13 +1,12 @@
 -- `modulator_lines::read` is proved: the line ends behind the id. Assumes nothing.
 use mathlib.Core.Path.{sym, ◌∙◌}
-use borrow.Author.Tests.{not-true, not-false}
 use Rattle.lines.specs.ModulatorLines.{read_line}
 use Rattle.lines.proofs.modulator_lines.read.Goals as goal
 
 pub returns-then-not-ended : goal.returns-then-not-ended
 unfolding read_line
-returns-then-not-ended c = rw (sym c.ended.ensures ∙ not-true c.ended.result c.if-not-ended.true)
+returns-then-not-ended c = rw (sym c.ended.ensures ∙ c.if-not-ended.true)
 
 pub returns : goal.returns
 unfolding read_line
-returns c = rw (sym c.ended.ensures ∙ not-false c.ended.result c.if-not-ended.false)
+returns c = rw (sym c.ended.ensures ∙ c.if-not-ended.false)

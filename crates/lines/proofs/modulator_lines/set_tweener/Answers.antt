@@ -1,7 +1,6 @@
 -- `modulator_lines::set_tweener` is proved: the double and the tween are read, and the line ends behind them. Assumes
 -- nothing.
 use mathlib.Core.Path.{sym, ◌∙◌}
-use borrow.Author.Tests.{not-true, not-false}
 use Rattle.lines.specs.ModulatorLines.{set_tweener_line}
 use Rattle.lines.proofs.modulator_lines.set_tweener.Goals as goal
 
@@ -20,7 +19,7 @@ returns-then-not-ended c =
     rw (
       sym c.float.ensures ∙ c.in-Is.is,
       sym c.tween.ensures ∙ c.in-Is-tween.is,
-      sym c.ended.ensures ∙ not-true c.ended.result c.if-not-ended.true,
+      sym c.ended.ensures ∙ c.if-not-ended.true,
     )
 
 pub returns : goal.returns
@@ -29,5 +28,5 @@ returns c =
     rw (
       sym c.float.ensures ∙ c.in-Is.is,
       sym c.tween.ensures ∙ c.in-Is-tween.is,
-      sym c.ended.ensures ∙ not-false c.ended.result c.if-not-ended.false,
+      sym c.ended.ensures ∙ c.if-not-ended.false,
     )

@@ -1,6 +1,5 @@
 -- `modulator_lines::set_waveform` is proved: the waveform is read, and the line ends behind it. Assumes nothing.
 use mathlib.Core.Path.{sym, ◌∙◌}
-use borrow.Author.Tests.{not-true, not-false}
 use Rattle.lines.specs.ModulatorLines.{set_waveform_line}
 use Rattle.lines.proofs.modulator_lines.set_waveform.Goals as goal
 
@@ -11,9 +10,9 @@ returns-in_default c = rw (sym c.wave.ensures ∙ c.in_default.is)
 pub returns-then-not-ended : goal.returns-then-not-ended
 unfolding set_waveform_line
 returns-then-not-ended c =
-    rw (sym c.wave.ensures ∙ c.in-Is.is, sym c.ended.ensures ∙ not-true c.ended.result c.if-not-ended.true)
+    rw (sym c.wave.ensures ∙ c.in-Is.is, sym c.ended.ensures ∙ c.if-not-ended.true)
 
 pub returns : goal.returns
 unfolding set_waveform_line
 returns c =
-    rw (sym c.wave.ensures ∙ c.in-Is.is, sym c.ended.ensures ∙ not-false c.ended.result c.if-not-ended.false)
+    rw (sym c.wave.ensures ∙ c.in-Is.is, sym c.ended.ensures ∙ c.if-not-ended.false)

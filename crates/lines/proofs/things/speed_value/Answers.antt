@@ -1,7 +1,6 @@
 -- `things::speed_value` is proved: the word says whether a speed is read behind it, or an id and a mapping. Assumes
 -- nothing.
 use mathlib.Core.Path.{sym, ◌∙◌}
-use borrow.Author.Tests.{not-true, not-false}
 use Rattle.grammar.proofs.Places.{first}
 use Rattle.lines.specs.Things.{speed_value_at}
 use Rattle.lines.proofs.things.speed_value.Goals as goal
@@ -19,14 +18,14 @@ returns-then-is c =
 pub returns-then-not-is : goal.returns-then-not-is
 unfolding speed_value_at
 returns-then-not-is c =
-    first _ _ _ c.next_word-w.ensures (rw (sym c.is.ensures ∙ c.if-is.false, sym c.is-2.ensures ∙ not-true c.is-2.result c.if-not-is.true))
+    first _ _ _ c.next_word-w.ensures (rw (sym c.is.ensures ∙ c.if-is.false, sym c.is-2.ensures ∙ c.if-not-is.true))
 
 pub returns-in_default-id : goal.returns-in_default-id
 unfolding speed_value_at
 returns-in_default-id c =
     first _ _ _ c.next_word-w.ensures (rw (
       sym c.is.ensures ∙ c.if-is.false,
-      sym c.is-2.ensures ∙ not-false c.is-2.result c.if-not-is.false,
+      sym c.is-2.ensures ∙ c.if-not-is.false,
       sym c.id.ensures ∙ c.in_default-id.is,
     ))
 
@@ -35,7 +34,7 @@ unfolding speed_value_at
 returns-in_default-speed_map c =
     first _ _ _ c.next_word-w.ensures (rw (
       sym c.is.ensures ∙ c.if-is.false,
-      sym c.is-2.ensures ∙ not-false c.is-2.result c.if-not-is.false,
+      sym c.is-2.ensures ∙ c.if-not-is.false,
       sym c.id.ensures ∙ c.in-Is-id.is,
       sym c.speed_map.ensures ∙ c.in_default-speed_map.is,
     ))
@@ -45,7 +44,7 @@ unfolding speed_value_at
 returns c =
     first _ _ _ c.next_word-w.ensures (rw (
       sym c.is.ensures ∙ c.if-is.false,
-      sym c.is-2.ensures ∙ not-false c.is-2.result c.if-not-is.false,
+      sym c.is-2.ensures ∙ c.if-not-is.false,
       sym c.id.ensures ∙ c.in-Is-id.is,
       sym c.speed_map.ensures ∙ c.in-Is-speed_map.is,
     ))
