@@ -17,6 +17,7 @@ use crate::holds::floats::no_floats;
 use crate::holds::speeds::no_speeds;
 use crate::holds::{floats, speeds};
 use station::fresh;
+use std::io::{Read, Stdin};
 use text::Word;
 
 // The longest line, its LF not counted, and a count that stands for a longer one.
@@ -91,9 +92,9 @@ fn hear(line: &[u8], count: usize) -> Heard {
 
 // Reads once. Where the input has ended, or cannot be read, a last line that has no LF is heard, since it is a
 // call too.
-fn read(line: &[u8], portion: &mut [u8], r: Reading) -> Reading {
-    let got = libc::read(0, portion);
-    if got <= 0 {
+fn read(input: &mut Stdin, line: &[u8], portion: &mut [u8], r: Reading) -> Reading {
+    let got = input.read(portion).unwrap_or(0);
+    if got == 0 {
         return Reading {
             count: 0,
             at: 0,
@@ -105,7 +106,7 @@ fn read(line: &[u8], portion: &mut [u8], r: Reading) -> Reading {
     Reading {
         count: r.count,
         at: 0,
-        to: io::count(got, portion),
+        to: got,
         ended: false,
         heard: no_call(true),
     }
@@ -144,11 +145,11 @@ fn take(line: &mut [u8], portion: &[u8], r: Reading) -> Reading {
 }
 
 // Goes on to the next line's end, or the portion's. Reads where the portion is used up.
-fn next(line: &mut [u8], portion: &mut [u8], r: Reading) -> Reading {
+fn next(input: &mut Stdin, line: &mut [u8], portion: &mut [u8], r: Reading) -> Reading {
     if r.at < r.to {
         return take(line, portion, r);
     }
-    read(line, portion, r)
+    read(input, line, portion, r)
 }
 
 // Nothing is read.
@@ -191,14 +192,14 @@ fn fewer(turns: u64, open: bool, ended: bool) -> u64
 }
 
 // A proved loop ends, and nothing says that the input does: it counts down from a number that no run uses up.
-fn all(line: &mut [u8], portion: &mut [u8], out: &mut [u8]) {
+fn all(input: &mut Stdin, line: &mut [u8], portion: &mut [u8], out: &mut [u8]) {
     let mut station = fresh();
     let mut floats = no_floats();
     let mut speeds = no_speeds();
     let mut r = start();
     let mut turns = u64::MAX;
     while turns > 0 {
-        r = next(line, portion, r);
+        r = next(input, line, portion, r);
         let h = r.heard;
         let call = h.call;
         let asked = text::part(line, h.bytes);
@@ -231,9 +232,10 @@ fn all(line: &mut [u8], portion: &mut [u8], out: &mut [u8]) {
     }
 }
 
-fn main() {
+fn main(rt: HostRuntime) {
+    let mut input = rt.stdin();
     let mut line = [0u8; 1024];
     let mut portion = io::large_buffer();
     let mut out = [0u8; 512];
-    all(&mut line, &mut portion, &mut out);
+    all(&mut input, &mut line, &mut portion, &mut out);
 }
