@@ -9,8 +9,8 @@ use judge::{Floated, first_fault, span_faults};
 // The whole number nearest to q * 5 ^ 9 / 2 ^ (k + 32), a tie to the even one. The product can need 85
 // bits, so it stands in two parts, `high` and the 32 lower bits of `low`.
 fn rounded(q: u64, k: u64) -> u64
-    requires fact_1 { 0 < k }
-    requires fact_2 { k < 64 }
+    requires above_0 { 0 < k }
+    requires below_64 { k < 64 }
     ensures { result ≡ closest (q * 1953125) (2 ^ k * 4294967296) }
 {
     let low = q % 0x1_0000_0000 * 1953125;

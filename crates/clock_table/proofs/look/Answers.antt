@@ -10,9 +10,6 @@ use Rattle.clock.specs.declared.Clock.{Clock}
 use Rattle.clock_table.proofs.Slots.{sixteen}
 use Rattle.clock_table.proofs.look.Goals as goal
 
-abbrev start : tie.After-find → tie.Start
-start c = c.before.before
-
 pub returns-then-found-ne0 : goal.returns-then-found-ne0
 unfolding look_of
 returns-then-found-ne0 c =

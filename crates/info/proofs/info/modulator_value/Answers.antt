@@ -7,9 +7,6 @@ use Rattle.info.specs.Infos.{modulator_value_of}
 use Rattle.info.proofs.Lengths.{sixteen}
 use Rattle.info.proofs.info.modulator_value.Goals as goal
 
-abbrev start : tie.After-find → tie.Start
-start c = c.before.before
-
 pub returns-then-found-ne0 : goal.returns-then-found-ne0
 unfolding modulator_value_of
 returns-then-found-ne0 c =

@@ -8,9 +8,6 @@ use Rattle.info.specs.Infos.{due_of, when_to_start_of}
 use Rattle.info.proofs.Lengths.{sixteen}
 use Rattle.info.proofs.info.when_to_start.Goals as goal
 
-abbrev start : tie.After-find → tie.Start
-start c = c.before.before.before
-
 pub returns-then-found-ne0 : goal.returns-then-found-ne0
 unfolding when_to_start_of
 returns-then-found-ne0 c =

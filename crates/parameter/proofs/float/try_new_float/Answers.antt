@@ -6,9 +6,6 @@ use Rattle.judge.proofs.Judged.{joined, refuses, gives}
 use Rattle.parameter.specs.FloatParameters.{try_new_of}
 use Rattle.parameter.proofs.float.try_new_float.Goals as goal
 
-abbrev start : tie.After-both → tie.Start
-start c = c.before.before.before
-
 pub returns-then-n-ne0 : goal.returns-then-n-ne0
 unfolding try_new_of
 returns-then-n-ne0 c = refuses _ _ c.first_fault-n.ensures (joined _ _ c.both.ensures c.float_value_faults.ensures c.float_faults.ensures) c.if-n-ne0.true

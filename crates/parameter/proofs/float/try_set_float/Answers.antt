@@ -5,13 +5,10 @@ use Rattle.judge.proofs.Judged.{number}
 use Rattle.parameter.specs.FloatParameters.{target_faults, try_set_of}
 use Rattle.parameter.proofs.float.try_set_float.Goals as goal
 
-abbrev start : tie.After-first-fault → tie.Start
-start c = c.before.before
-
 pub returns-then-n-ne0 : goal.returns-then-n-ne0
 unfolding try_set_of
-returns-then-n-ne0 c = rw (number c.first_fault-n.ensures c.target_faults.ensures), ne_eqb _ 0 c.if-n-ne0.true)
+returns-then-n-ne0 c = rw (number c.first_fault-n.ensures c.target_faults.ensures, ne_eqb _ 0 c.if-n-ne0.true)
 
 pub returns : goal.returns
 unfolding try_set_of
-returns c = rw (number c.first_fault-n.ensures c.target_faults.ensures), eq-eqb _ 0 c.if-n-ne0.false, c.set_float.ensures)
+returns c = rw (number c.first_fault-n.ensures c.target_faults.ensures, eq-eqb _ 0 c.if-n-ne0.false, c.set_float.ensures)

@@ -6,9 +6,6 @@ use Rattle.judge.proofs.Judged.{joined, refuses, gives}
 use Rattle.parameter.specs.SpeedParameters.{try_new_of}
 use Rattle.parameter.proofs.speed.try_new_speed.Goals as goal
 
-abbrev start : tie.After-both → tie.Start
-start c = c.before.before.before
-
 pub returns-then-n-ne0 : goal.returns-then-n-ne0
 unfolding try_new_of
 returns-then-n-ne0 c = refuses _ _ c.first_fault-n.ensures (joined _ _ c.both.ensures c.speed_value_faults.ensures c.speed_faults.ensures) c.if-n-ne0.true

@@ -8,9 +8,9 @@ use Rattle.parameter.proofs.speed.try_update_speed.Goals as goal
 
 pub returns-then-n-ne0 : goal.returns-then-n-ne0
 unfolding try_update_of
-returns-then-n-ne0 c = rw (number c.first_fault-n.ensures c.dt_faults.ensures), ne_eqb _ 0 c.if-n-ne0.true)
+returns-then-n-ne0 c = rw (number c.first_fault-n.ensures c.dt_faults.ensures, ne_eqb _ 0 c.if-n-ne0.true)
 
 pub returns : goal.returns
 unfolding try_update_of
 returns c =
-    rw (number c.first_fault-n.ensures c.dt_faults.ensures), eq-eqb _ 0 c.if-n-ne0.false, c.update_speed-u.ensures)
+    rw (number c.first_fault-n.ensures c.dt_faults.ensures, eq-eqb _ 0 c.if-n-ne0.false, c.update_speed-u.ensures)

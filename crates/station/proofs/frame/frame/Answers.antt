@@ -13,12 +13,6 @@ use Rattle.station.specs.declared.frame.ModulatorsTurned.{ModulatorsTurned}
 use Rattle.station.specs.declared.frame.ClocksTurned.{ClocksTurned}
 use Rattle.station.proofs.frame.frame.Goals as goal
 
-abbrev test : tie.After-turn-clocks → tie.Else1
-test c = c.before.before.before.before.before.before
-
-abbrev start : tie.After-turn-clocks → tie.Start
-start c = (test c).before.before.before
-
 -- m and c are what the two loops answered
 two-loops :
     (st : Station) (dt : Float) {info : Info} {m : ModulatorsTurned} {c : ClocksTurned} → first_fault (dt_faults dt) ≡ 0 → info ≡ info_in st

@@ -5,9 +5,6 @@ use Rattle.times.specs.Starts.{start_faults, try_update_of}
 use Rattle.judge.proofs.Judged.{joined, refuses, gives}
 use Rattle.times.proofs.start_time.try_update.Goals as goal
 
-abbrev start : tie.After-both → tie.Start
-start c = c.before.before.before
-
 pub returns-then-n-ne0 : goal.returns-then-n-ne0
 unfolding try_update_of
 returns-then-n-ne0 c = refuses _ _ c.first_fault-n.ensures (joined _ _ c.both.ensures c.dt_faults.ensures c.start_faults.ensures) c.if-n-ne0.true

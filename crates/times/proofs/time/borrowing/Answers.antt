@@ -8,9 +8,9 @@ pub returns-then-e : goal.returns-then-e
 unfolding of_bits
 returns-then-e c = rw (c.if-d.true, c.if-e.true) c.time_at.ensures
 
-pub ??overflow-sub-time-at : goal.??overflow-sub-time-at
+pub overflow_sub-ticks : goal.overflow_sub-ticks
 unfolding of_bits
-??overflow-sub-time-at c = omega (arith, c.requires c.if-d.true)
+overflow_sub-ticks c = omega (arith, c.requires c.if-d.true)
 
 pub returns-then-d : goal.returns-then-d
 unfolding of_bits

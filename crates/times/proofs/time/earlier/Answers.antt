@@ -1,21 +1,32 @@
 -- `time::earlier` is proved: its refusals are those of the amount, of the time and of a time that is smaller than the
 -- amount; its answer is what `borrowing` gives, which has a tick where it takes one. Assumes nothing.
-use mathlib.Core.Path.{refl, sym, ap, ◌∙◌}
-use mathlib.Core.Bool.{false}
-use lib.Ieee.{to_unsigned}
+use Prim.Native.Nat.{ℕ}
+use mathlib.Core.Path.{◌≡◌, refl, sym, ap, ◌∙◌, subst}
+use mathlib.Core.Bool.{Bool, false}
+use lib.Dec.{T}
+use lib.Ieee.{Float, binary64, fits, to_unsigned}
+use Rattle.doubles.specs.Doubles.{sign_of, whole_of, fract_of}
 use Rattle.judge.specs.Answer.{accepted}
+use Rattle.judge.specs.Judge.{first_fault}
+use Rattle.judge.specs.declared.Faults.{Faults}
 use Rattle.judge.proofs.Judged.{joined, number}
-use Rattle.times.specs.Times.{too_little, subtracted, earlier_of, is_less, order_of}
+use Rattle.times.specs.Times.{time_at, shift_faults, too_little, subtracted, earlier_of, is_less, order_of}
 use Rattle.times.specs.declared.time.ClockTime.{ClockTime}
-use Rattle.times.proofs.time.Less.{well, less_is, whole_off_lem, tick_off, borrowed_is}
+use Rattle.times.proofs.time.Less.{whole_off, Well, well, less_is, whole_off_lem, tick_off, borrowed_is}
 use Rattle.times.proofs.time.Shifts.{faulty, clear, below}
 use Rattle.times.proofs.time.earlier.Goals as goal
 
-abbrev going : tie.After-is-less → tie.Else1
-going c = c.before.before.before.before.before.before
+-- an amount and a time with no fault: `is` and `n` are what the code joined and answered
+clean : (t : ClockTime) (x : Float) (f : Faults) (n : ℕ) → T (fits binary64 t.fraction) → T (fits binary64 x) → sign_of x ≡ false → n ≡ first_fault f → f ≡ shift_faults t x → n ≡ 0 → Well t x
+clean t x f n F G s e is z = well t x F G s (number e is ∙ z)
 
-abbrev start : tie.After-is-less → tie.Start
-start c = (going c).before.before.before.before.before
+-- the whole ticks are the definition's
+whole : (x w : Float) (n : ℕ) → n ≡ to_unsigned 64 w → w ≡ whole_of x → n ≡ whole_off x
+whole x w n e h = e ∙ ap (to_unsigned 64) h
+
+-- the test is the definition's
+test : (t : ClockTime) (x r : Float) (w : ℕ) (u : ClockTime) (b : Bool) → Well t x → w ≡ whole_off x → r ≡ fract_of x → u ≡ time_at t.clock w r → b ≡ is_less (order_of t u) → b ≡ too_little t x
+test t x r w u b g W R at e = e ∙ ap (λ (v : ClockTime). is_less (order_of t v)) at ∙ less_is t x g w r W R
 
 pub returns-then-fault-ne0 : goal.returns-then-fault-ne0
 unfolding earlier_of
@@ -24,33 +35,37 @@ returns-then-fault-ne0 c = faulty _ _ _ _ c.first_fault-fault.ensures (joined _ 
 pub returns-then-is_less : goal.returns-then-is_less
 unfolding earlier_of
 returns-then-is_less c =
-    let a = (start PLACE).args in
-    let j = (going PLACE).before in
-    below _ false (too_little a.t a.x) (subtracted a.t a.x) j.first-fault.ensures (faults j.before) (going PLACE).if1.false refl (sym (let a = (start c).args in
-    c.is_less.ensures
-    ∙ ap (λ (u : ClockTime). is_less (order_of a.t u)) c.time_at.ensures
-    ∙ less_is a.t a.x (clean c) c.to_u64-w.result c.fract-r.result (whole PLACE) c.fract-r.ensures) ∙ c.if-is_less.true)
+    let a = c.args in
+    let faults = joined _ _ c.both.ensures c.float_faults.ensures c.clock_time_faults.ensures in
+    let g = clean a.t a.x _ _ (subst T (sym c.well_formed.0.1.1.1.1.0.1) tt) (subst T (sym c.well_formed.1.0.1) tt) c.requires c.first_fault-fault.ensures faults c.if-fault-ne0.false in
+    below _ false (too_little a.t a.x) (subtracted a.t a.x) c.first_fault-fault.ensures faults c.if-fault-ne0.false refl
+    (sym (test a.t a.x _ _ _ _ g (whole a.x _ _ c.to_u64-w.ensures c.whole.ensures) c.fract-r.ensures c.time_at.ensures c.is_less.ensures) ∙ c.if-is_less.true)
 
-pub ??overflow-sub-borrowing : goal.??overflow-sub-borrowing
-??overflow-sub-borrowing c =
-    let a = (start PLACE).args in
-    whole_off_lem a.t a.x (let s = start c in
-    let j = (going c).before in
-    well s.args.t s.args.x (fits-t s) (fits-x s) s.pre (number j.first-fault.ensures (faults j.before) ∙ (going c).if1.false)) c.to_u64-w.result c.fract-r.result (c.to_u64-w.ensures ∙ ap (to_unsigned 64) c.whole.ensures) c.fract-r.ensures (sym (test PLACE) ∙ c.if-is_less.false)
+pub overflow_sub-t : goal.overflow_sub-t
+overflow_sub-t c =
+    let a = c.args in
+    let faults = joined _ _ c.both.ensures c.float_faults.ensures c.clock_time_faults.ensures in
+    let g = clean a.t a.x _ _ (subst T (sym c.well_formed.0.1.1.1.1.0.1) tt) (subst T (sym c.well_formed.1.0.1) tt) c.requires c.first_fault-fault.ensures faults c.if-fault-ne0.false in
+    let W = whole a.x _ _ c.to_u64-w.ensures c.whole.ensures in
+    whole_off_lem a.t a.x g c.to_u64-w.result c.fract-r.result W c.fract-r.ensures
+    (sym (test a.t a.x _ _ _ _ g W c.fract-r.ensures c.time_at.ensures c.is_less.ensures) ∙ c.if-is_less.false)
 
 pub borrowing-requires : goal.borrowing-requires
 borrowing-requires c =
-    let a = (start PLACE).args in
-    tick_off a.t a.x (let s = start c in
-    let j = (going c).before in
-    well s.args.t s.args.x (fits-t s) (fits-x s) s.pre (number j.first-fault.ensures (faults j.before) ∙ (going c).if1.false)) c.to_u64-w.result c.fract-r.result (c.to_u64-w.ensures ∙ ap (to_unsigned 64) c.whole.ensures) c.fract-r.ensures (sym (test PLACE) ∙ c.if-is_less.false)
+    let a = c.args in
+    let faults = joined _ _ c.both.ensures c.float_faults.ensures c.clock_time_faults.ensures in
+    let g = clean a.t a.x _ _ (subst T (sym c.well_formed.0.1.1.1.1.0.1) tt) (subst T (sym c.well_formed.1.0.1) tt) c.requires c.first_fault-fault.ensures faults c.if-fault-ne0.false in
+    let W = whole a.x _ _ c.to_u64-w.ensures c.whole.ensures in
+    tick_off a.t a.x g c.to_u64-w.result c.fract-r.result W c.fract-r.ensures
+    (sym (test a.t a.x _ _ _ _ g W c.fract-r.ensures c.time_at.ensures c.is_less.ensures) ∙ c.if-is_less.false)
 
 pub returns : goal.returns
 unfolding earlier_of
 returns c =
-    let a = (start PLACE).args in
-    let j = (going PLACE).before in
-    ap accepted (c.borrowing.ensures ∙ borrowed_is a.t a.x (let s = start c in
-    let j = (going c).before in
-    well s.args.t s.args.x (fits-t s) (fits-x s) s.pre (number j.first-fault.ensures (faults j.before) ∙ (going c).if1.false)) c.to_u64-w.result c.fract-r.result (c.to_u64-w.ensures ∙ ap (to_unsigned 64) c.whole.ensures) c.fract-r.ensures)
-    ∙ clear _ false (too_little a.t a.x) (subtracted a.t a.x) j.first-fault.ensures (faults j.before) (going PLACE).if1.false refl (sym (test PLACE) ∙ c.if-is_less.false)
+    let a = c.args in
+    let faults = joined _ _ c.both.ensures c.float_faults.ensures c.clock_time_faults.ensures in
+    let g = clean a.t a.x _ _ (subst T (sym c.well_formed.0.1.1.1.1.0.1) tt) (subst T (sym c.well_formed.1.0.1) tt) c.requires c.first_fault-fault.ensures faults c.if-fault-ne0.false in
+    let W = whole a.x _ _ c.to_u64-w.ensures c.whole.ensures in
+    ap accepted (c.borrowing.ensures ∙ borrowed_is a.t a.x g c.to_u64-w.result c.fract-r.result W c.fract-r.ensures)
+    ∙ clear _ false (too_little a.t a.x) (subtracted a.t a.x) c.first_fault-fault.ensures faults c.if-fault-ne0.false refl
+    (sym (test a.t a.x _ _ _ _ g W c.fract-r.ensures c.time_at.ensures c.is_less.ensures) ∙ c.if-is_less.false)

@@ -11,12 +11,6 @@ use Rattle.times.specs.Times.{time_at, too_many, ticks_more, later_of}
 use Rattle.times.proofs.time.Shifts.{faulty, clear, filled, held, too_many_lem}
 use Rattle.times.proofs.time.later.Goals as goal
 
-abbrev judged : tie.After-more-ticks → tie.After-first-fault
-judged c = c.before.before.before.before.before
-
-abbrev start : tie.After-more-ticks → tie.Start
-start c = (judged c).before.before.before.before
-
 pub returns-then-fault-ne0 : goal.returns-then-fault-ne0
 unfolding later_of
 returns-then-fault-ne0 c = faulty _ _ _ _ c.first_fault-fault.ensures (joined _ _ c.both.ensures c.float_faults.ensures c.clock_time_faults.ensures) c.if-fault-ne0.true
@@ -24,19 +18,17 @@ returns-then-fault-ne0 c = faulty _ _ _ _ c.first_fault-fault.ensures (joined _ 
 pub returns-in_default : goal.returns-in_default
 unfolding later_of
 returns-in_default c =
-    let j = judged PLACE in
-    let a = (start PLACE).args in
+    let a = c.args in
     let n = ticks_more a.t a.x in
-    filled _ (too_many a.t.ticks n) false (time_at a.t.clock (a.t.ticks + n) (fract_of (add binary64 a.t.fraction a.x))) j.first-fault.ensures (faults j.before) c.if-fault-ne0.false
-    (too_many_lem a.t.ticks n _ (ap told_count (sym c.in_default.is) ∙ (c.more_ticks.ensures
-    ∙ ap (more_of (start c).args.t.ticks) (c.to_u64.ensures ∙ ap (to_unsigned 64) c.whole.ensures)))
+    let count = c.more_ticks.ensures ∙ ap (more_of a.t.ticks) (c.to_u64.ensures ∙ ap (to_unsigned 64) c.whole.ensures) in
+    filled _ (too_many a.t.ticks n) false (time_at a.t.clock (a.t.ticks + n) (fract_of (add binary64 a.t.fraction a.x))) c.first_fault-fault.ensures (joined _ _ c.both.ensures c.float_faults.ensures c.clock_time_faults.ensures) c.if-fault-ne0.false
+    (too_many_lem a.t.ticks n _ (ap told_count (sym c.in_default.is) ∙ count))
 
 pub returns : goal.returns
 unfolding later_of
 returns c =
-    let j = judged PLACE in
-    let a = (start PLACE).args in
-    let h = held a.t.ticks (ticks_more a.t a.x) _ (ap told_count (sym c.in-Are.is) ∙ (c.more_ticks.ensures
-    ∙ ap (more_of (start c).args.t.ticks) (c.to_u64.ensures ∙ ap (to_unsigned 64) c.whole.ensures)) in
+    let a = c.args in
+    let count = c.more_ticks.ensures ∙ ap (more_of a.t.ticks) (c.to_u64.ensures ∙ ap (to_unsigned 64) c.whole.ensures) in
+    let h = held a.t.ticks (ticks_more a.t a.x) _ (ap told_count (sym c.in-Are.is) ∙ count) in
     rw (c.time_at.ensures, c.fract.ensures, h.sum)
-    (clear _ _ _ _ j.first-fault.ensures (faults j.before) c.if-fault-ne0.false h.room refl)
+    (clear _ _ _ _ c.first_fault-fault.ensures (joined _ _ c.both.ensures c.float_faults.ensures c.clock_time_faults.ensures) c.if-fault-ne0.false h.room refl)

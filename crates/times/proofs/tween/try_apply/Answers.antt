@@ -5,9 +5,6 @@ use Rattle.judge.proofs.Judged.{joined, refuses, gives}
 use Rattle.times.specs.Easings.{ease_faults, try_apply_of}
 use Rattle.times.proofs.tween.try_apply.Goals as goal
 
-abbrev start : tie.After-both → tie.Start
-start c = c.before.before.before
-
 pub returns-then-n-ne0 : goal.returns-then-n-ne0
 unfolding try_apply_of
 returns-then-n-ne0 c = refuses _ _ c.first_fault-n.ensures (joined _ _ c.both.ensures c.ease_faults.ensures c.float_faults.ensures) c.if-n-ne0.true

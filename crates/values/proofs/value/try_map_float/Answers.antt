@@ -5,9 +5,6 @@ use Rattle.values.specs.Values.{float_map_faults, try_map_float_of}
 use Rattle.judge.proofs.Judged.{joined, refuses, gives}
 use Rattle.values.proofs.value.try_map_float.Goals as goal
 
-abbrev start : tie.After-both → tie.Start
-start c = c.before.before.before
-
 pub returns-then-n-ne0 : goal.returns-then-n-ne0
 unfolding try_map_float_of
 returns-then-n-ne0 c = refuses _ _ c.first_fault-n.ensures (joined _ _ c.both.ensures c.float_map_faults.ensures c.float_faults.ensures) c.if-n-ne0.true

@@ -1,26 +1,18 @@
 -- `try_value_output` meets its contract: it joins the faults of the value, of the operation and of the value made, and
 -- answers the number of the first fault or the value made. Assumes nothing.
-use mathlib.Core.Path.{◌≡◌, ap, ◌∙◌}
-use Rattle.judge.specs.Judge.{both_faults}
+use mathlib.Core.Path.{ap, ◌∙◌}
 use Rattle.values.specs.Values.{float_value_faults, op_faults, value_output_of, try_value_output_of}
 use Rattle.judge.proofs.Judged.{joined, refuses, gives}
 use Rattle.values.proofs.value.try_value_output.Goals as goal
 
-abbrev start : tie.After-both2 → tie.Start
-start c = c.before.before.before.before.before.before
-
--- what the code joined
-faults : (c : tie.After-both2) →
-    c.both2.result ≡ both_faults (both_faults (float_value_faults (start c).args.v) (op_faults (start c).args.op)) (float_value_faults (value_output_of (start c).args.v (start c).args.op))
-faults c =
-    joined _ _ c.both2.ensures
-    (joined _ _ c.before.before.both.ensures c.before.before.before.before.float-value-faults.ensures c.before.before.before.op-faults.ensures)
-    (c.before.float-value-faults2.ensures ∙ ap float_value_faults c.before.before.before.before.before.value-output.ensures)
-
 pub returns-then-n-ne0 : goal.returns-then-n-ne0
 unfolding try_value_output_of
-returns-then-n-ne0 c = refuses _ _ c.first_fault-n.ensures (faults PLACE) c.if-n-ne0.true
+returns-then-n-ne0 c = refuses _ _ c.first_fault-n.ensures (joined _ _ c.both-2.ensures
+    (joined _ _ c.both.ensures c.float_value_faults.ensures c.op_faults.ensures)
+    (c.float_value_faults-2.ensures ∙ ap float_value_faults c.value_output-to.ensures)) c.if-n-ne0.true
 
 pub returns : goal.returns
 unfolding try_value_output_of
-returns c = gives _ c.first_fault-n.ensures (faults PLACE) c.if-n-ne0.false c.value_output-to.ensures
+returns c = gives _ c.first_fault-n.ensures (joined _ _ c.both-2.ensures
+    (joined _ _ c.both.ensures c.float_value_faults.ensures c.op_faults.ensures)
+    (c.float_value_faults-2.ensures ∙ ap float_value_faults c.value_output-to.ensures)) c.if-n-ne0.false c.value_output-to.ensures
