@@ -36,8 +36,8 @@ pub record Sixteen (t : Clocks) : Type 0 where
 
 pub sixteen : (t : Clocks) (vs : List Val) → Is (row the_type) t vs → Sixteen t
 sixteen t vs p = record {
-  keys = sym (length-map t.keys _) ∙ p.1.1.0.1.0.1;
-  clocks = sym (length-map t.clocks _) ∙ p.1.1.1.0.1.0.1;
+  keys = p.1.1.0.1.0.1;
+  clocks = p.1.1.1.0.1.0.1;
 }
 
 -- what is told of a clock in its slot

@@ -16,8 +16,8 @@ pub record Sixteen (info : Info) : Type 0 where
 
 pub sixteen : (info : Info) (vs : List Val) → Is (row the_type) info vs → Sixteen info
 sixteen info vs p = record {
-  clock_keys = sym (length-map info.clock_keys _) ∙ p.1.1.0.1.0.1;
-  clocks = sym (length-map info.clocks _) ∙ p.1.1.1.0.1.0.1;
-  modulator_keys = sym (length-map info.modulator_keys _) ∙ p.1.1.1.1.0.1.0.1;
-  values = sym (length-map info.values _) ∙ p.1.1.1.1.1.0.1.0.1;
+  clock_keys = p.1.1.0.1.0.1;
+  clocks = p.1.1.1.0.1.0.1;
+  modulator_keys = p.1.1.1.1.0.1.0.1;
+  values = p.1.1.1.1.1.0.1.0.1;
 }

@@ -25,8 +25,8 @@ pub record Sixteen (t : Modulators) : Type 0 where
 
 pub sixteen : (t : Modulators) (vs : List Val) → Is (row the_type) t vs → Sixteen t
 sixteen t vs p = record {
-  keys = sym (length-map t.keys _) ∙ p.1.1.0.1.0.1;
-  slots = sym (length-map t.slots _) ∙ p.1.1.1.0.1.0.1;
+  keys = p.1.1.0.1.0.1;
+  slots = p.1.1.1.0.1.0.1;
 }
 
 -- r is what `set_by` gave, of the lookup's number f, the slot s and the arguments' number n

@@ -7,9 +7,9 @@ use Rattle.clock_table.proofs.clock_speed.Goals as goal
 pub returns-in-At : goal.returns-in-At
 unfolding clock_speed_of
 returns-in-At c =
-    tells _ _ c.look.ensures c.in-At.is (λ (c : Clock). c.??speed.raw)
+    tells _ _ c.look.ensures c.in-At.is (λ (c : Clock). c.speed.raw)
 
 pub returns-in-Refused : goal.returns-in-Refused
 unfolding clock_speed_of
 returns-in-Refused c =
-    tells _ _ c.look.ensures c.in-Refused.is (λ (c : Clock). c.??speed.raw)
+    tells _ _ c.look.ensures c.in-Refused.is (λ (c : Clock). c.speed.raw)

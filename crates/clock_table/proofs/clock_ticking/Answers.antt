@@ -7,9 +7,9 @@ use Rattle.clock_table.proofs.clock_ticking.Goals as goal
 pub returns-in-At : goal.returns-in-At
 unfolding clock_ticking_of
 returns-in-At c =
-    tells _ _ c.look.ensures c.in-At.is (λ (c : Clock). c.??ticking)
+    tells _ _ c.look.ensures c.in-At.is (λ (c : Clock). c.ticking)
 
 pub returns-in-Refused : goal.returns-in-Refused
 unfolding clock_ticking_of
 returns-in-Refused c =
-    tells _ _ c.look.ensures c.in-Refused.is (λ (c : Clock). c.??ticking)
+    tells _ _ c.look.ensures c.in-Refused.is (λ (c : Clock). c.ticking)

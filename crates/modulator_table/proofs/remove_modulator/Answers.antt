@@ -1,18 +1,29 @@
 -- `remove_modulator` meets its contract: it stores one key, that of the slot found, freed or as it was. Assumes
 -- nothing.
+use native.Mathlib.Omega.{arith}
+use Rattle.ids.proofs.Places.{some_slot}
 use mathlib.Core.Path.{refl}
 use Rattle.doubles.specs.Doubles.{zero_f}
 use Rattle.ids.proofs.Entries.{frees}
 use Rattle.modulator.specs.Tweeners.{new_tweener}
 use Rattle.modulator_table.specs.declared.Modulator.TheVariants.{OfTweener}
 use Rattle.modulator_table.specs.ModulatorTables.{slot_of, modulator_table, remove_of}
-use Rattle.modulator_table.proofs.Lookups.{Sixteen, sixteen}
+use Rattle.modulator_table.proofs.Lookups.{sixteen}
 use Rattle.modulator_table.proofs.remove_modulator.Goals as goal
-
-sizes : (s : tie.Start) → Sixteen s.args.t
-sizes s = sixteen s.args.t _ s.well-formed.0
 
 pub returns : goal.returns
 unfolding remove_of
 returns c =
-    frees modulator_table c.args.t c.args.id refl (sizes PLACE).keys (sizes PLACE).slots _ (slot_of (OfTweener (new_tweener zero_f))) _ c.find-found.ensures c.left.ensures
+    frees modulator_table c.args.t c.args.id refl (sixteen c.args.t _ c.well_formed.0).keys (sixteen c.args.t _ c.well_formed.0).slots _ (slot_of (OfTweener (new_tweener zero_f))) _ c.find-found.ensures c.left.ensures
+
+pub offset_bounds-keys-i : goal.offset_bounds-keys-i
+offset_bounds-keys-i c = omega (arith, some_slot _ _ _ (sixteen c.args.t _ c.well_formed.0).keys c.find-found.ensures)
+
+pub bounds-keys-i : goal.bounds-keys-i
+bounds-keys-i c = some_slot _ _ _ (sixteen c.args.t _ c.well_formed.0).keys c.find-found.ensures
+
+pub offset_bounds-table-i : goal.offset_bounds-table-i
+offset_bounds-table-i c = omega (arith, some_slot _ _ _ (sixteen c.args.t _ c.well_formed.0).keys c.find-found.ensures)
+
+pub bounds-table-i : goal.bounds-table-i
+bounds-table-i c = some_slot _ _ _ (sixteen c.args.t _ c.well_formed.0).keys c.find-found.ensures

@@ -53,8 +53,8 @@ pub record Left (info : Info) (dt : Float) (t new : Modulators) (seen : Info) (i
 pub left_all : (info : Info) (dt : Float) (t : Modulators) (vs : List Val) → Is (row the_type) t vs → info.values ≡ map slot_value t.slots → Left info dt t t info 0
 left_all info dt t vs owned e = record {
   upto = omega arith;
-  keys_16 = sym (length-map t.keys _) ∙ owned.1.1.0.1.0.1;
-  slots_16 = sym (length-map t.slots _) ∙ owned.1.1.1.0.1.0.1;
+  keys_16 = owned.1.1.0.1.0.1;
+  slots_16 = owned.1.1.1.0.1.0.1;
   kept = refl;
   shown = rw (← e);
   rest = refl;

@@ -7,13 +7,13 @@ use Rattle.info.specs.Infos.{at_or_past}
 use Rattle.info.proofs.info.reached.Goals as goal
 
 pub returns-in-Less : goal.returns-in-Less
-returns-in-Less c = sym (ap at_or_past (sym (c.partial_cmp.ensures ∙ ap (λ (i : ClockTime). order_of i c.args.t) c.time_at.ensures))) ∙ ap at_or_past c.in-Less.is)
+returns-in-Less c = sym (ap at_or_past (sym (c.partial_cmp.ensures ∙ ap (λ (i : ClockTime). order_of i c.args.t) c.time_at.ensures)) ∙ ap at_or_past c.in-Less.is)
 
 pub returns-in-Equal : goal.returns-in-Equal
-returns-in-Equal c = sym (ap at_or_past (sym (c.partial_cmp.ensures ∙ ap (λ (i : ClockTime). order_of i c.args.t) c.time_at.ensures))) ∙ ap at_or_past c.in-Equal.is)
+returns-in-Equal c = sym (ap at_or_past (sym (c.partial_cmp.ensures ∙ ap (λ (i : ClockTime). order_of i c.args.t) c.time_at.ensures)) ∙ ap at_or_past c.in-Equal.is)
 
 pub returns-in-Greater : goal.returns-in-Greater
-returns-in-Greater c = sym (ap at_or_past (sym (c.partial_cmp.ensures ∙ ap (λ (i : ClockTime). order_of i c.args.t) c.time_at.ensures))) ∙ ap at_or_past c.in-Greater.is)
+returns-in-Greater c = sym (ap at_or_past (sym (c.partial_cmp.ensures ∙ ap (λ (i : ClockTime). order_of i c.args.t) c.time_at.ensures)) ∙ ap at_or_past c.in-Greater.is)
 
 pub returns-in-Unordered : goal.returns-in-Unordered
-returns-in-Unordered c = sym (ap at_or_past (sym (c.partial_cmp.ensures ∙ ap (λ (i : ClockTime). order_of i c.args.t) c.time_at.ensures))) ∙ ap at_or_past c.in-Unordered.is)
+returns-in-Unordered c = sym (ap at_or_past (sym (c.partial_cmp.ensures ∙ ap (λ (i : ClockTime). order_of i c.args.t) c.time_at.ensures)) ∙ ap at_or_past c.in-Unordered.is)
