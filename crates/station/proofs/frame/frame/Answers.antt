@@ -20,17 +20,10 @@ two-loops :
 unfolding frame_of
 two-loops st dt z seen turned ticked = rw (eq-eqb _ 0 z, ticked, turned, seen)
 
-by-turns :
-    (c : tie.After-turn-clocks)
-    → frame_of (start c).args.st (start c).args.dt ≡ framed (start c).args.st c.before.before.turn-modulators.result.table c.turn-clocks.result
-by-turns c =
-    let turn = c.before.before in
-    two-loops _ _ (is (test c).before ∙ (test c).if1.false) turn.before.info-of.ensures turn.turn-modulators.ensures c.turn-clocks.ensures
-
 pub returns-then-n-ne0 : goal.returns-then-n-ne0
 unfolding frame_of
 returns-then-n-ne0 c =
-    rw (number c.first_fault-n.ensures c.dt_faults.ensures), ne_eqb _ 0 c.if-n-ne0.true, c.undone.ensures)
+    rw (number c.first_fault-n.ensures c.dt_faults.ensures, ne_eqb _ 0 c.if-n-ne0.true, c.undone.ensures)
 
 pub turn_modulators-m-requires : goal.turn_modulators-m-requires
 unfolding info_in
@@ -43,8 +36,8 @@ turn_clocks-c-requires c =
 
 pub returns-then-c-ne0 : goal.returns-then-c-ne0
 returns-then-c-ne0 c =
-    rw (c.undone-then-c-ne0.ensures, by-turns PLACE, ne_eqb _ 0 c.if-c-ne0.true)
+    rw (c.undone-then-c-ne0.ensures, two-loops _ _ (number c.first_fault-n.ensures c.dt_faults.ensures ∙ c.if-n-ne0.false) c.info_of.ensures c.turn_modulators-m.ensures c.turn_clocks-c.ensures, ne_eqb _ 0 c.if-c-ne0.true)
 
 pub returns : goal.returns
 returns c =
-    rw (by-turns PLACE, eq-eqb _ 0 c.if-c-ne0.false)
+    rw (two-loops _ _ (number c.first_fault-n.ensures c.dt_faults.ensures ∙ c.if-n-ne0.false) c.info_of.ensures c.turn_modulators-m.ensures c.turn_clocks-c.ensures, eq-eqb _ 0 c.if-c-ne0.false)

@@ -2,10 +2,10 @@
 -- it stands. Assumes nothing.
 use Prim.Native.Nat.{◌-◌}
 use mathlib.Core.Path.{sym, ap, ◌∙◌}
-use mathlib.Core.Logic.{⊎_elim}
 use Rattle.clock.specs.OneClock.{told_moved}
 use Rattle.station.proofs.frame.ClockTurns.{left_all, left_skipped, left_made, left_stopped, left_none}
 use Rattle.station.proofs.frame.turn_clocks.Goals as goal
+use Rattle.station.proofs.frame.turn_clocks.Goals.{then-k+in-Is, else-k}
 
 pub loop-i-init : goal.loop-i-init
 loop-i-init c =
@@ -18,10 +18,12 @@ returns-in-Refused c =
 
 pub loop-i-preserved : goal.loop-i-preserved
 loop-i-preserved c =
-    ⊎_elim
-    (λ w. left_made _ _ _ c.loop-i.table c.loop-i.seen _ _ _ c.loop-i-test.true c.loop-i.invariant _ _ _ _ _ _ w.0.taken (sym w.2.ensures ∙ ap told_moved w.4.given.1) w.8.ensures w.9 w.10 w.11)
-    (λ w. left_skipped _ _ _ c.loop-i.table c.loop-i.seen _ _ _ c.loop-i-test.true c.loop-i.invariant _ _ _ w.0.left w.1 w.2 w.3)
-    c.if-k.branch
+    elim c.if-k.branch [
+      then-k+in-Is w ↦
+        left_made _ _ _ c.loop-i.table c.loop-i.seen _ _ _ c.loop-i-test.true c.loop-i.invariant _ _ _ _ _ _ w.if-k.true (sym w.turn_clock.ensures ∙ ap told_moved w.in-Is.is) w.clock_info.ensures w.table-is w.seen-is w.reports-is
+    | else-k w ↦
+        left_skipped _ _ _ c.loop-i.table c.loop-i.seen _ _ _ c.loop-i-test.true c.loop-i.invariant _ _ _ w.if-k.false w.table-is w.seen-is w.reports-is
+    ]
 
 pub returns : goal.returns
 returns c = left_none _ _ _ _ _ _ _ c.loop-i-test.false c.loop-i.invariant
