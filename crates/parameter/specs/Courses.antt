@@ -1,6 +1,6 @@
 -- Document 01, "parameter.rs": the timing of a tween, for parameters of both kinds and for tweeners: RULES, parameter.
 -- Assumes nothing.
-use Rattle.std.specs.Prelude.{ℕ, ◌-◌, Bool, true, false, cond, eqb, Float}
+use Rattle.std.specs.Prelude.{Bool, true, false, cond, eqb, Float}
 use Rattle.std.specs.Float.{binary64}
 use Rattle.std.specs.Float.Ieee.{add, le}
 use Rattle.doubles.specs.Doubles.{zero_f}

@@ -18,6 +18,6 @@ pub returns : goal.returns
 returns c =
     let here : c.args.slot < length c.args.keys = omega (arith, c.if-i-ge16.false, c.well_formed.0.1.0.1) in
     elim c.if-k.branch [
-      then-k+else-k-generation w ↦ find_old _ _ _ _ here w.if-k.true w.if-k-generation.false c.missing.ensures
-    | else-k w ↦ find_empty _ _ _ _ here w.if-k.false c.missing.ensures
+      | then-k+else-k-generation w ↦ find_old _ _ _ _ here w.if-k.true w.if-k-generation.false c.missing.ensures
+      | else-k w ↦ find_empty _ _ _ _ here w.if-k.false c.missing.ensures
     ]

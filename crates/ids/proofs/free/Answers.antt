@@ -1,5 +1,4 @@
 -- `ids::free` meets its contract: the keys from the turn's slot on give the whole answer. Assumes nothing.
-use Prim.Native.Nat.{◌-◌}
 use native.Mathlib.Omega.{arith}
 use mathlib.Core.Path.{◌≡◌, refl, sym, ◌∙◌}
 use lib.ListN.{length}

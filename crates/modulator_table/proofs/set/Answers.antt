@@ -2,7 +2,6 @@
 use native.Mathlib.Omega.{arith}
 use Rattle.ids.proofs.Places.{some_slot}
 use mathlib.Core.Path.{refl}
-use Rattle.judge.specs.Judge.{first_fault}
 use Rattle.ids.proofs.Entries.{stores}
 use Rattle.modulator_table.specs.ModulatorTables.{slot_of, modulator_table}
 use Rattle.modulator_table.specs.Sets.{is_lfo, refusal_of, modulator_by, set_by}

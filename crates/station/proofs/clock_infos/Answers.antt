@@ -1,5 +1,4 @@
 -- `clock_infos` meets its contract: the loop fills in what `clock_info` shows of each clock. Assumes nothing.
-use Prim.Native.Nat.{◌-◌}
 use mathlib.Core.Path.{refl}
 use Rattle.station.proofs.Filled.{fill_none, fill_more, fill_all}
 use Rattle.station.proofs.clock_infos.Goals as goal

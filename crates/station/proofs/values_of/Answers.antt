@@ -1,7 +1,5 @@
 -- `values_of` meets its contract: the loop fills in what `slot_value` gives of each slot. Assumes nothing.
-use Prim.Native.Nat.{◌-◌}
 use mathlib.Core.Path.{refl}
-use Rattle.modulator_table.specs.ModulatorTables.{slot_value}
 use Rattle.station.proofs.Filled.{fill_none, fill_more, fill_all}
 use Rattle.station.proofs.values_of.Goals as goal
 

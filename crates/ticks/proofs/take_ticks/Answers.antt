@@ -1,6 +1,5 @@
 -- `ticks::take_ticks` is proved: a sum with no whole tick stays, from 2 ^ 64 on the sum alone passes 2 ^ 64 - 1, and
 -- between them `more_ticks` counts what the definition counts. Assumes nothing.
-use borrow.Author.Tests.{not-true, not-false}
 use mathlib.Core.Path.{◌≡◌, sym, ap, ◌∙◌, subst}
 use native.Mathlib.Omega.{arith}
 use lib.Dec.{T}

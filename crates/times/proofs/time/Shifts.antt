@@ -1,12 +1,12 @@
 -- A time that is moved: what the code answers by its tests is what the definition answers. RULES, order. Assumes
 -- nothing.
-use mathlib.Core.Path.{◌≡◌, refl, sym, ap, ◌∙◌}
+use mathlib.Core.Path.{◌≡◌, refl, sym, ap}
 use mathlib.Core.Bool.{Bool, true, false, cond}
 use Prim.Native.Nat.{ℕ, ◌+◌, ◌-◌, ◌^◌}
 use native.Mathlib.Omega.{arith}
 use lib.Dec.{ltb}
 use borrow.Author.Tests.{ne_eqb}
-use Rattle.judge.specs.Answer.{Answer, accepted, refused, is_refused}
+use Rattle.judge.specs.Answer.{accepted, refused, is_refused}
 use Rattle.judge.specs.Judge.{of_shift, no_faults, first_fault, number_of, answered}
 use Rattle.judge.specs.Numbers.{TICKS_FULL, BEFORE_ZERO}
 use Rattle.judge.specs.declared.Faults.{Faults}

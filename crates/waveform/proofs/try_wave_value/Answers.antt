@@ -1,8 +1,7 @@
 -- `try_wave_value` meets its contract: it joins the faults of the waveform and of the phase, and answers the number of
 -- the first fault or what `wave_value` gives. Assumes nothing.
-use Rattle.judge.specs.Judge.{float_faults}
 use Rattle.judge.proofs.Judged.{joined, refuses, gives}
-use Rattle.waveform.specs.Waves.{wave_faults, try_wave_value_of}
+use Rattle.waveform.specs.Waves.{try_wave_value_of}
 use Rattle.waveform.proofs.try_wave_value.Goals as goal
 
 pub returns-then-n-ne0 : goal.returns-then-n-ne0

@@ -1,7 +1,5 @@
 -- `try_new_float` meets its contract: it joins the faults of the value and of the default, and answers the number of
 -- the first fault or what `new_float` gives. Assumes nothing.
-use Rattle.judge.specs.Judge.{float_faults}
-use Rattle.values.specs.Values.{float_value_faults}
 use Rattle.judge.proofs.Judged.{joined, refuses, gives}
 use Rattle.parameter.specs.FloatParameters.{try_new_of}
 use Rattle.parameter.proofs.float.try_new_float.Goals as goal

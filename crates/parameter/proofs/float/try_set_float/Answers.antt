@@ -2,7 +2,7 @@
 -- or what `set_float` gives. Assumes nothing.
 use borrow.Author.Tests.{eq-eqb, ne_eqb}
 use Rattle.judge.proofs.Judged.{number}
-use Rattle.parameter.specs.FloatParameters.{target_faults, try_set_of}
+use Rattle.parameter.specs.FloatParameters.{try_set_of}
 use Rattle.parameter.proofs.float.try_set_float.Goals as goal
 
 pub returns-then-n-ne0 : goal.returns-then-n-ne0

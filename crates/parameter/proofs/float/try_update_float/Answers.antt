@@ -1,7 +1,6 @@
 -- `try_update_float` meets its contract: it gives the number of a bad dt with the parameter as it was, or what
 -- `update_float` gives. Assumes nothing.
 use borrow.Author.Tests.{eq-eqb, ne_eqb}
-use Rattle.judge.specs.Judge.{dt_faults}
 use Rattle.parameter.specs.FloatParameters.{try_update_of}
 use Rattle.judge.proofs.Judged.{number}
 use Rattle.parameter.proofs.float.try_update_float.Goals as goal

@@ -1,7 +1,5 @@
 -- `try_new_speed` meets its contract: it joins the faults of the value and of the default, and answers the number of
 -- the first fault or what `new_speed` gives. Assumes nothing.
-use Rattle.values.specs.Speeds.{speed_faults}
-use Rattle.values.specs.Values.{speed_value_faults}
 use Rattle.judge.proofs.Judged.{joined, refuses, gives}
 use Rattle.parameter.specs.SpeedParameters.{try_new_of}
 use Rattle.parameter.proofs.speed.try_new_speed.Goals as goal

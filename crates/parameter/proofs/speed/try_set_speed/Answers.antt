@@ -11,14 +11,21 @@ use Rattle.parameter.proofs.speed.try_set_speed.Goals as goal
 
 pub returns-then-n-ne0 : goal.returns-then-n-ne0
 unfolding try_set_of
-returns-then-n-ne0 c = rw (number c.first_fault-n.ensures
-    (joined _ _ c.both-2.ensures
-    (joined _ _ c.both.ensures c.speed_value_faults.ensures c.tween_faults.ensures)
-    (c.read_faults-readable.ensures ∙ ap (read_faults c.args.p.raw) c.target_unit.ensures)), ne_eqb _ 0 c.if-n-ne0.true)
+returns-then-n-ne0 c = rw (
+  number c.first_fault-n.ensures
+      (joined _ _ c.both-2.ensures
+      (joined _ _ c.both.ensures c.speed_value_faults.ensures c.tween_faults.ensures)
+      (c.read_faults-readable.ensures ∙ ap (read_faults c.args.p.raw) c.target_unit.ensures)),
+  ne_eqb _ 0 c.if-n-ne0.true,
+)
 
 pub returns : goal.returns
 unfolding try_set_of
-returns c = rw (number c.first_fault-n.ensures
-    (joined _ _ c.both-2.ensures
-    (joined _ _ c.both.ensures c.speed_value_faults.ensures c.tween_faults.ensures)
-    (c.read_faults-readable.ensures ∙ ap (read_faults c.args.p.raw) c.target_unit.ensures)), eq-eqb _ 0 c.if-n-ne0.false, c.set_speed.ensures)
+returns c = rw (
+  number c.first_fault-n.ensures
+      (joined _ _ c.both-2.ensures
+      (joined _ _ c.both.ensures c.speed_value_faults.ensures c.tween_faults.ensures)
+      (c.read_faults-readable.ensures ∙ ap (read_faults c.args.p.raw) c.target_unit.ensures)),
+  eq-eqb _ 0 c.if-n-ne0.false,
+  c.set_speed.ensures,
+)

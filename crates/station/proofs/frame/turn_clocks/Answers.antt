@@ -1,6 +1,5 @@
 -- `turn_clocks` meets its contract: the turns that are left give the whole answer, and what is seen shows the table as
 -- it stands. Assumes nothing.
-use Prim.Native.Nat.{◌-◌}
 use mathlib.Core.Path.{sym, ap, ◌∙◌}
 use Rattle.clock.specs.OneClock.{told_moved}
 use Rattle.station.proofs.frame.ClockTurns.{left_all, left_skipped, left_made, left_stopped, left_none}
@@ -19,10 +18,10 @@ returns-in-Refused c =
 pub loop-i-preserved : goal.loop-i-preserved
 loop-i-preserved c =
     elim c.if-k.branch [
-      then-k+in-Is w ↦
-        left_made _ _ _ c.loop-i.table c.loop-i.seen _ _ _ c.loop-i-test.true c.loop-i.invariant _ _ _ _ _ _ w.if-k.true (sym w.turn_clock.ensures ∙ ap told_moved w.in-Is.is) w.clock_info.ensures w.table-is w.seen-is w.reports-is
-    | else-k w ↦
-        left_skipped _ _ _ c.loop-i.table c.loop-i.seen _ _ _ c.loop-i-test.true c.loop-i.invariant _ _ _ w.if-k.false w.table-is w.seen-is w.reports-is
+      | then-k+in-Is w ↦
+          left_made _ _ _ c.loop-i.table c.loop-i.seen _ _ _ c.loop-i-test.true c.loop-i.invariant _ _ _ _ _ _ w.if-k.true (sym w.turn_clock.ensures ∙ ap told_moved w.in-Is.is) w.clock_info.ensures w.table-is w.seen-is w.reports-is
+      | else-k w ↦
+          left_skipped _ _ _ c.loop-i.table c.loop-i.seen _ _ _ c.loop-i-test.true c.loop-i.invariant _ _ _ w.if-k.false w.table-is w.seen-is w.reports-is
     ]
 
 pub returns : goal.returns

@@ -1,7 +1,6 @@
 -- `try_update` meets its contract: it joins the faults of dt and of the start time, and answers the number of the first
 -- fault or what `update` gives. Assumes nothing.
-use Rattle.judge.specs.Judge.{dt_faults}
-use Rattle.times.specs.Starts.{start_faults, try_update_of}
+use Rattle.times.specs.Starts.{try_update_of}
 use Rattle.judge.proofs.Judged.{joined, refuses, gives}
 use Rattle.times.proofs.start_time.try_update.Goals as goal
 

@@ -1,6 +1,5 @@
 -- `time::try_from_ticks_f64` is proved: its refusals are those of `float_faults` and of the sign, its answer is what
 -- `to_u64` and `fract` give. Assumes nothing.
-use Rattle.judge.specs.Judge.{float_faults}
 use Rattle.times.specs.Times.{try_from_float_of}
 use Rattle.judge.proofs.Judged.{joined, refuses, accepts}
 use Rattle.times.proofs.time.try_from_ticks_f64.Goals as goal

@@ -2,7 +2,7 @@
 -- nothing.
 use mathlib.Core.Path.{ap, ◌∙◌}
 use Rattle.judge.specs.Answer.{accepted}
-use Rattle.times.specs.Times.{clock_time_faults, try_order_of}
+use Rattle.times.specs.Times.{try_order_of}
 use Rattle.judge.proofs.Judged.{joined, refuses, accepts}
 use Rattle.times.proofs.time.try_partial_cmp.Goals as goal
 

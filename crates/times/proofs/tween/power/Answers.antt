@@ -1,6 +1,6 @@
 -- `power` meets its contract: at the loop's head p is the product of i factors, with i in 1..n, and a turn makes it
 -- that of i + 1. The measure is n - i. Assumes nothing.
-use Prim.Native.Nat.{ℕ, zero, suc, ◌+◌, ◌-◌, ◌≤◌}
+use Prim.Native.Nat.{ℕ, zero, suc, ◌+◌, ◌≤◌}
 use mathlib.Core.Path.{◌≡◌, refl}
 use native.Mathlib.Numerals.{add-one}
 use native.Mathlib.Omega.{arith}

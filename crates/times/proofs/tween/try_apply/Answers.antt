@@ -1,8 +1,7 @@
 -- `try_apply` meets its contract: it joins the faults of the easing and of the amount, and answers the number of the
 -- first fault or what `apply` gives. Assumes nothing.
-use Rattle.judge.specs.Judge.{float_faults}
 use Rattle.judge.proofs.Judged.{joined, refuses, gives}
-use Rattle.times.specs.Easings.{ease_faults, try_apply_of}
+use Rattle.times.specs.Easings.{try_apply_of}
 use Rattle.times.proofs.tween.try_apply.Goals as goal
 
 pub returns-then-n-ne0 : goal.returns-then-n-ne0

@@ -1,7 +1,7 @@
 -- `try_interpolate_speed` meets its contract: it joins the faults of both speeds, of the first read in the second's
 -- unit, and of the amount, and answers the number of the first fault or what `interpolate_speed` gives. Assumes
 -- nothing.
-use Rattle.values.specs.Speeds.{speed_faults, read_faults, try_interpolate_speed_of}
+use Rattle.values.specs.Speeds.{try_interpolate_speed_of}
 use Rattle.judge.proofs.Judged.{joined, refuses, gives}
 use Rattle.values.proofs.clock_speed.try_interpolate_speed.Goals as goal
 

@@ -2,7 +2,6 @@
 -- `Judged`. Assumes nothing.
 use mathlib.Core.Path.{ap, ◌∙◌}
 use Rattle.judge.specs.Answer.{accepted}
-use Rattle.judge.specs.Judge.{float_faults}
 use Rattle.values.specs.Tweenables.{try_interpolate_of}
 use Rattle.judge.proofs.Judged.{joined, refuses, accepts}
 use Rattle.values.proofs.tweenable.try_interpolate.Goals as goal

@@ -1,7 +1,6 @@
 -- `try_map_float` meets its contract: it joins the faults of the mapping and of the input, and answers the number of
 -- the first fault or what `map_float` gives. Assumes nothing.
-use Rattle.judge.specs.Judge.{float_faults}
-use Rattle.values.specs.Values.{float_map_faults, try_map_float_of}
+use Rattle.values.specs.Values.{try_map_float_of}
 use Rattle.judge.proofs.Judged.{joined, refuses, gives}
 use Rattle.values.proofs.value.try_map_float.Goals as goal
 

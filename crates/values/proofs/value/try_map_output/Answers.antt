@@ -1,7 +1,7 @@
 -- `try_map_output` meets its contract: it joins the faults of the mapping, of the operation and of the mapping made,
 -- and answers the number of the first fault or the mapping made. Assumes nothing.
 use mathlib.Core.Path.{ap, ◌∙◌}
-use Rattle.values.specs.Values.{float_map_faults, op_faults, map_output_of, try_map_output_of}
+use Rattle.values.specs.Values.{float_map_faults, try_map_output_of}
 use Rattle.judge.proofs.Judged.{joined, refuses, gives}
 use Rattle.values.proofs.value.try_map_output.Goals as goal
 

@@ -1,7 +1,7 @@
 -- `try_value_output` meets its contract: it joins the faults of the value, of the operation and of the value made, and
 -- answers the number of the first fault or the value made. Assumes nothing.
 use mathlib.Core.Path.{ap, ◌∙◌}
-use Rattle.values.specs.Values.{float_value_faults, op_faults, value_output_of, try_value_output_of}
+use Rattle.values.specs.Values.{float_value_faults, try_value_output_of}
 use Rattle.judge.proofs.Judged.{joined, refuses, gives}
 use Rattle.values.proofs.value.try_value_output.Goals as goal
 
