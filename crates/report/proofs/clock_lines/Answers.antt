@@ -6,10 +6,11 @@ use Rattle.report.proofs.clock_lines.Goals as goal
 
 pub returns : goal.returns
 returns c =
-    (
-      rw (c.started.ensures, c.position.ensures) at c.lines.ensures,
-      longest c.args.id c.args.c
+    record {
+      result_after = rw (c.started.ensures, c.position.ensures) at c.lines.ensures;
+      c_len_bound =
+        longest c.args.id c.args.c
           c.requires
           (omega (arith, c.well_formed.1.1.0.1.1.1.0.1))
-          (rw (← c.position.ensures) (omega (arith, c.position.type_inv))),
-    )
+          (rw (← c.position.ensures) (omega (arith, c.position.type_inv)));
+    }

@@ -9,4 +9,4 @@ returns-then-out-lt-LONGEST c =
 
 pub returns : goal.returns
 returns c =
-    written c.args.id c.args.c _ (omega (arith, c.if-out-lt-LONGEST.false)) c.clock_lines-n.ensures.1 c.clock_lines-n.ensures.0
+    written c.args.id c.args.c _ (omega (arith, c.if-out-lt-LONGEST.false)) c.clock_lines-n.ensures.c_len_bound c.clock_lines-n.ensures.result_after

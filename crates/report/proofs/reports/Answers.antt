@@ -18,8 +18,8 @@ loop-i-preserved c =
     let many = sixteen c.args.t _ c.well_formed.0 in
     (
       omega arith,
-      c.slot_lines-at.auto.0 ∙ c.loop-i.invariant.1,
-      slot_put c.args.t c.loop-i.i _ _ (omega (arith, many.keys)) (omega (arith, many.clocks)) _ _ c.slot_lines-at.ensures.1 c.slot_lines-at.ensures.0 c.loop-i.invariant.2,
+      c.slot_lines-at.auto.out ∙ c.loop-i.invariant.1,
+      slot_put c.args.t c.loop-i.i _ _ (omega (arith, many.keys)) (omega (arith, many.clocks)) _ _ c.slot_lines-at.ensures.c_len_bound c.slot_lines-at.ensures.result_after c.loop-i.invariant.2,
     )
 
 pub returns : goal.returns

@@ -1,6 +1,5 @@
 -- `curves::default_tween` is proved: the line ends, and the tween is the default. Assumes nothing.
 use mathlib.Core.Path.{sym, ◌∙◌}
-
 use Rattle.calls.specs.Calls.{default_reply}
 use Rattle.calls.proofs.Replies.{default_put}
 use Rattle.calls.proofs.curves.default_tween.Goals as goal

@@ -1,6 +1,5 @@
 -- `curves::ease` is proved: the easing and the double are read, and the line ends behind them. Assumes nothing.
 use mathlib.Core.Path.{sym, ◌∙◌}
-
 use Rattle.calls.specs.Calls.{ease_reply}
 use Rattle.calls.proofs.Replies.{float_put}
 use Rattle.calls.proofs.curves.ease.Goals as goal

@@ -1,6 +1,5 @@
 -- `curves::lerp` is proved: the three doubles are read, and the line ends behind them. Assumes nothing.
 use mathlib.Core.Path.{sym, ◌∙◌}
-
 use Rattle.calls.specs.Calls.{lerp_reply}
 use Rattle.calls.proofs.Replies.{float_put}
 use Rattle.calls.proofs.curves.lerp.Goals as goal

@@ -1,6 +1,5 @@
 -- `curves::secs` is proved: the duration is read, and the line ends behind it. Assumes nothing.
 use mathlib.Core.Path.{sym, ◌∙◌}
-
 use Rattle.calls.specs.Calls.{secs_reply}
 use Rattle.calls.proofs.Replies.{float_put}
 use Rattle.calls.proofs.curves.secs.Goals as goal

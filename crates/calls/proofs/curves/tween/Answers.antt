@@ -10,4 +10,4 @@ returns c =
 
 pub shape_of-out : goal.shape_of-out
 shape_of-out c =
-    c.end.auto.0 ∙ c.ease-e.auto.0 ∙ c.put-d.auto.0 ∙ c.number-c.auto.0 ∙ c.put-b.auto.0 ∙ c.start-a.auto.0
+    c.end.auto.out ∙ c.ease-e.auto.out ∙ c.put-d.auto.out ∙ c.number-c.auto.out ∙ c.put-b.auto.out ∙ c.start-a.auto.out

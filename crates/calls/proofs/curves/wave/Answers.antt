@@ -1,6 +1,5 @@
 -- `curves::wave` is proved: the waveform and the phase are read, and the line ends behind them. Assumes nothing.
 use mathlib.Core.Path.{sym, ◌∙◌}
-
 use Rattle.calls.specs.Calls.{wave_reply}
 use Rattle.calls.proofs.Replies.{float_put}
 use Rattle.calls.proofs.curves.wave.Goals as goal

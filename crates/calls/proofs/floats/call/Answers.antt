@@ -1,7 +1,6 @@
 -- `floats::call` is proved: the double is read, the line ends behind it, and the call has its function. Assumes
 -- nothing.
 use mathlib.Core.Path.{sym, ◌∙◌}
-
 use Rattle.calls.specs.Calls.{floats_of}
 use Rattle.calls.proofs.Replies.{line_put}
 use Rattle.calls.proofs.floats.call.Goals as goal

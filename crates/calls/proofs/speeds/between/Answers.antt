@@ -1,7 +1,6 @@
 -- `speeds::between` is proved: the second speed and the amount are read, and the line ends behind them. Assumes
 -- nothing.
 use mathlib.Core.Path.{sym, ◌∙◌}
-
 use Rattle.calls.specs.Calls.{between_reply}
 use Rattle.calls.proofs.Replies.{speed_put}
 use Rattle.calls.proofs.speeds.between.Goals as goal

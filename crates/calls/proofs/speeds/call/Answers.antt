@@ -1,6 +1,5 @@
 -- `speeds::call` is proved: the speed is read, the line ends behind it, and the call has its unit. Assumes nothing.
 use mathlib.Core.Path.{sym, ◌∙◌}
-
 use Rattle.calls.specs.Calls.{speeds_of}
 use Rattle.calls.proofs.Replies.{float_put}
 use Rattle.calls.proofs.speeds.call.Goals as goal
