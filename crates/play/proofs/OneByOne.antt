@@ -48,8 +48,8 @@ module _ (r : Record) (x : Given) (a : Answer Given) where
 
 module _ (r : Record) where
   -- a call that answers by a number
-  by_number : (m : ℕ) → Says r done (by_number m) (number_for r (by_number m))
-  by_number m = by (eqb m 0) refl
+  by_number_lem : (m : ℕ) → Says r done (by_number m) (number_for r (by_number m))
+  by_number_lem m = by (eqb m 0) refl
     where
       by : (b : Bool) → eqb m 0 ≡ b → Says r done (cond b (accepted done) (refused m)) (number_for r (cond b (accepted done) (refused m)))
       by true e = record { zero = λ z. refl; not_zero = λ z. absurd (z refl) }
@@ -80,12 +80,12 @@ module _ (r : Record) where
 says : (st : Station) (r : Record) (o : Op) → Says r (awaited_by r o) (told st (call_by r o)) (number_for r (told st (call_by r o)))
 unfolding run_clock_of
 says st r op.Add = by_add r (add_clock_of st.clocks (speed_of r)).answer (refusal_numbered st (call_by r op.Add))
-says st r op.Drop = by_number r (remove_of st.clocks (id_of r)).refused
-says st r op.Start = by_number r (tick_on_of true st.clocks (id_of r)).refused
-says st r op.Stop = by_number r (tick_on_of false st.clocks (id_of r)).refused
-says st r op.Reset = by_number r (reset_clock_of st.clocks (id_of r)).refused
-says st r op.Speed = by_number r (set_speed_of st.clocks (id_of r) (speed_of r) no_time).refused
-says st r op.Frame = by_number r (frame_of st (double_of r)).refused
+says st r op.Drop = by_number_lem r (remove_of st.clocks (id_of r)).refused
+says st r op.Start = by_number_lem r (tick_on_of true st.clocks (id_of r)).refused
+says st r op.Stop = by_number_lem r (tick_on_of false st.clocks (id_of r)).refused
+says st r op.Reset = by_number_lem r (reset_clock_of st.clocks (id_of r)).refused
+says st r op.Speed = by_number_lem r (set_speed_of st.clocks (id_of r) (speed_of r) no_time).refused
+says st r op.Frame = by_number_lem r (frame_of st (double_of r)).refused
 
 accepts : (st : Station) (r : Record) → number_on st r ≡ 0 → Accepts st r
 unfolding number_on

@@ -59,15 +59,15 @@ module _
 
 module _ (st : Station) (r : Record) {dt : Float} (is : call.Frame dt ≡ call_of r) (framed : Framed) (left : framed ≡ frame_of st dt) where
   -- a frame's number is told as an answer, and found again
-  by_number : (n : ℕ) → n ≡ number_for r (by_number n)
-  by_number n = by (eqb n 0) refl
+  by_number_lem : (n : ℕ) → n ≡ number_for r (by_number n)
+  by_number_lem n = by (eqb n 0) refl
     where
       by : (b : Bool) → eqb n 0 ≡ b → n ≡ number_for r (by_number n)
       by true e = rw e (eqb-true n 0 e)
       by false e = rw e
 
   number_framed : framed.refused ≡ number_for r (told st (call.Frame dt))
-  number_framed = ap (λ (x : Framed). x.refused) left ∙ by_number _
+  number_framed = ap (λ (x : Framed). x.refused) left ∙ by_number_lem _
 
   pub frame_refused : (framed.refused ≡ 0 → ⊥) → taken_on st r ≡ refused framed.refused
   frame_refused = is_refused_lem st r is number_framed

@@ -2,7 +2,6 @@
 -- all of them end on a fresh one. Assumes nothing.
 use Prim.Native.Nat.{ℕ, ◌+◌, ◌-◌}
 use native.Mathlib.Omega.{arith}
-use mathlib.Core.Logic.{⊎_elim}
 use mathlib.Core.Path.{◌≡◌, sym, ap, ◌∙◌}
 use mathlib.Core.List.{List}
 use Rattle.clock_table.specs.declared.Clocks.{Clocks}
@@ -17,38 +16,15 @@ use Rattle.play.specs.declared.Replayed.{Replayed}
 use Rattle.play.specs.declared.Verdict.{Verdict}
 use Rattle.play.proofs.Turns.{made, command_refused, command_taken, frame_refused, frame_taken, refuses, accepts, ends, ends_inside, ends_at}
 use Rattle.play.proofs.replay.Goals as goal
+use Rattle.play.proofs.replay.Goals.{in-Add+else-added-ne0, in-Command+else-done-ne0, in-Frame+else-turned-ne0}
 
 -- the code holds the two tables apart
 abbrev both : Clocks → Modulators → Station
 both c m = record { clocks = c; modulators = m }
 
--- the recording
-abbrev bytes : tie.After-r invariant-loop decreases-loop → List ℕ
-bytes c = c.before.before.before.before.before.before.before.before.args.s.now
-
--- the record that was read stands where the loop is
-stands : (c : tie.After-r invariant-loop decreases-loop) → There (bytes c) c.before.before.before.loop.at c.r.given.0.0 c.r.given.0.1.0
-stands c = there _ _ _ _ (sym c.r.given.1 ∙ c.before.before.record-at.ensures)
-
 -- a replay that ends with the verdict v
 abbrev with-verdict : Clocks → Modulators → Verdict → Replayed
 with-verdict c m v = record { station = both c m; verdict = v }
-
--- the loop goes on by one of three ways; each leaves the tables that its record makes
-goes_on :
-    (c : tie.At-match2-branch invariant-loop decreases-loop)
-    → end_of taken_on (c.before.before.before.before.before.before.loop.count + 1) (both c.match2.clocks c.match2.modulators) (tape_at (bytes c.before.before.before) c.before.before.before.r.given.0.1.0)
-    ≡ end_of taken_on 0 fresh_station (tape_at (bytes c.before.before.before) 0)
-goes_on c =
-    let d = stands c.before.before.before in
-    let asked = c.before.call-of.ensures in
-    let on = c.before.before.before.before.before.before.loop.invariant.0 in
-    ⊎_elim
-    (λ w. rw (w.7, w.8) (accepts taken_on _ _ _ _ d (command_taken _ _ (made w.1.given.1 asked) w.3.ensures w.5.left) ∙ on))
-    (⊎_elim
-    (λ w. rw (w.7, w.8) (accepts taken_on _ _ _ _ d (command_taken _ _ (made w.1.given.1 asked) w.3.ensures w.5.left) ∙ on))
-    (λ w. rw (w.9, w.10) (accepts taken_on _ _ _ _ d (frame_taken _ _ (made w.1.given.1 asked) w.3.result w.3.ensures w.5.left) ∙ on)))
-    c.match2.branch
 
 pub loop-r-init : goal.loop-r-init
 loop-r-init c =
@@ -61,7 +37,7 @@ returns-then-added-ne0 c =
     let no = command_refused _ _ (made c.in-Add.is c.call_of.ensures) c.command-added.ensures c.if-added-ne0.true in
     c.ended.ensures
     ∙ ap (with-verdict _ _) c.in_record.ensures
-    ∙ ap (replayed _) (refuses taken_on _ _ _ _ (stands PLACE) no ∙ c.loop-r.invariant.0)
+    ∙ ap (replayed _) (refuses taken_on _ _ _ _ (there _ _ _ _ (sym c.in-Record.is ∙ c.record_at.ensures)) no ∙ c.loop-r.invariant.0)
 
 pub returns-then-done-ne0 : goal.returns-then-done-ne0
 unfolding replay_of
@@ -69,7 +45,7 @@ returns-then-done-ne0 c =
     let no = command_refused _ _ (made c.in-Command.is c.call_of.ensures) c.command-done.ensures c.if-done-ne0.true in
     c.ended-then-done-ne0.ensures
     ∙ ap (with-verdict _ _) c.in_record-then-done-ne0.ensures
-    ∙ ap (replayed _) (refuses taken_on _ _ _ _ (stands PLACE) no ∙ c.loop-r.invariant.0)
+    ∙ ap (replayed _) (refuses taken_on _ _ _ _ (there _ _ _ _ (sym c.in-Record.is ∙ c.record_at.ensures)) no ∙ c.loop-r.invariant.0)
 
 pub returns-then-turned-ne0 : goal.returns-then-turned-ne0
 unfolding replay_of
@@ -77,23 +53,32 @@ returns-then-turned-ne0 c =
     let no = frame_refused _ _ (made c.in-Frame.is c.call_of.ensures) c.framed-turned.result c.framed-turned.ensures c.if-turned-ne0.true in
     c.ended-then-turned-ne0.ensures
     ∙ ap (with-verdict _ _) c.in_record-then-turned-ne0.ensures
-    ∙ ap (replayed _) (refuses taken_on _ _ _ _ (stands PLACE) no ∙ c.loop-r.invariant.0)
+    ∙ ap (replayed _) (refuses taken_on _ _ _ _ (there _ _ _ _ (sym c.in-Record.is ∙ c.record_at.ensures)) no ∙ c.loop-r.invariant.0)
 
 -- ---- a record that is accepted
-pub ??overflow-add-count : goal.??overflow-add-count
-??overflow-add-count c =
-    let d = stands PLACE in
+pub overflow_add-count : goal.overflow_add-count
+overflow_add-count c =
+    let d = there _ _ _ _ (sym c.in-Record.is ∙ c.record_at.ensures) in
     omega (arith, d.past, d.within, c.loop-r.invariant.1)
 
 pub loop-r-smaller : goal.loop-r-smaller
 loop-r-smaller c =
-    let d = stands PLACE in
+    let d = there _ _ _ _ (sym c.in-Record.is ∙ c.record_at.ensures) in
     omega (arith, d.past, d.within)
 
+-- the loop goes on by one of three ways; each leaves the tables that its record makes
 pub loop-r-preserved : goal.loop-r-preserved
 loop-r-preserved c =
-    let d = stands PLACE in
-    (goes_on c, omega (arith, d.past, c.loop-r.invariant.1))
+    let d = there _ _ _ _ (sym c.in-Record.is ∙ c.record_at.ensures) in
+    let asked = c.call_of.ensures in
+    let on = c.loop-r.invariant.0 in (
+      elim c.match-call_of.branch [
+        in-Add+else-added-ne0 w ↦ rw (w.clocks-is, w.modulators-is) (accepts taken_on _ _ _ _ d (command_taken _ _ (made w.in-Add.is asked) w.command-added.ensures w.if-added-ne0.false) ∙ on)
+      | in-Command+else-done-ne0 w ↦ rw (w.clocks-is, w.modulators-is) (accepts taken_on _ _ _ _ d (command_taken _ _ (made w.in-Command.is asked) w.command-done.ensures w.if-done-ne0.false) ∙ on)
+      | in-Frame+else-turned-ne0 w ↦ rw (w.clocks-is, w.modulators-is) (accepts taken_on _ _ _ _ d (frame_taken _ _ (made w.in-Frame.is asked) w.framed-turned.result w.framed-turned.ensures w.if-turned-ne0.false) ∙ on)
+      ],
+      omega (arith, d.past, c.loop-r.invariant.1),
+    )
 
 -- ---- the end
 pub returns-in-End : goal.returns-in-End

@@ -3,11 +3,18 @@
 use Prim.Native.Nat.{◌-◌, ◌≤◌}
 use mathlib.Core.Path.{◌≡◌}
 use lib.ListN.{length}
+use Rattle.clock_table.specs.declared.Clocks.{Clocks}
+use Rattle.modulator_table.specs.declared.Modulators.{Modulators}
 use Rattle.station.specs.Stations.{fresh_station}
+use Rattle.station.specs.declared.Station.{Station}
 use Rattle.recording.specs.Recordings.{tape_at}
 use Rattle.play.specs.Asked.{taken_on}
 use Rattle.play.specs.Replays.{end_of}
 use Rattle.play.proofs.replay.Given as goal
+
+-- the code holds the two tables apart
+abbrev both : Clocks → Modulators → Station
+both c m = record { clocks = c; modulators = m }
 
 abbrev pub invariant-loop-r : goal.invariant-loop-r
 invariant-loop-r l =
