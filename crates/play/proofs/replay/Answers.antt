@@ -73,9 +73,9 @@ loop-r-preserved c =
     let asked = c.call_of.ensures in
     let on = c.loop-r.invariant.0 in (
       elim c.match-call_of.branch [
-        in-Add+else-added-ne0 w ↦ rw (w.clocks-is, w.modulators-is) (accepts taken_on _ _ _ _ d (command_taken _ _ (made w.in-Add.is asked) w.command-added.ensures w.if-added-ne0.false) ∙ on)
-      | in-Command+else-done-ne0 w ↦ rw (w.clocks-is, w.modulators-is) (accepts taken_on _ _ _ _ d (command_taken _ _ (made w.in-Command.is asked) w.command-done.ensures w.if-done-ne0.false) ∙ on)
-      | in-Frame+else-turned-ne0 w ↦ rw (w.clocks-is, w.modulators-is) (accepts taken_on _ _ _ _ d (frame_taken _ _ (made w.in-Frame.is asked) w.framed-turned.result w.framed-turned.ensures w.if-turned-ne0.false) ∙ on)
+        | in-Add+else-added-ne0 w ↦ rw (w.clocks-is, w.modulators-is) (accepts taken_on _ _ _ _ d (command_taken _ _ (made w.in-Add.is asked) w.command-added.ensures w.if-added-ne0.false) ∙ on)
+        | in-Command+else-done-ne0 w ↦ rw (w.clocks-is, w.modulators-is) (accepts taken_on _ _ _ _ d (command_taken _ _ (made w.in-Command.is asked) w.command-done.ensures w.if-done-ne0.false) ∙ on)
+        | in-Frame+else-turned-ne0 w ↦ rw (w.clocks-is, w.modulators-is) (accepts taken_on _ _ _ _ d (frame_taken _ _ (made w.in-Frame.is asked) w.framed-turned.result w.framed-turned.ensures w.if-turned-ne0.false) ∙ on)
       ],
       omega (arith, d.past, c.loop-r.invariant.1),
     )

@@ -16,13 +16,12 @@ loop-i-init c = (omega arith, refl, refl)
 pub loop-i-preserved : goal.loop-i-preserved
 loop-i-preserved c =
     let keys : length c.args.keys ≡ 16 = c.well_formed.1.0.1.0.1 in
-    let reports : length c.args.reports ≡ 16 = c.well_formed.1.1.0.1.0.1 in
-    (
+    let reports : length c.args.reports ≡ 16 = c.well_formed.1.1.0.1.0.1 in (
       omega arith,
       c.if-k.auto.out ∙ c.loop-i.invariant.1,
       elim c.if-k.branch [
-        then-k w ↦ rw (w.out-is, w.at-is) (put_one _ _ _ _ (omega arith) (omega arith) _ _ _ w.if-k.true w.tick-at.ensures c.loop-i.invariant.2)
-      | else-k w ↦ rw (w.out-is, w.at-is) (put_none _ _ _ _ (omega arith) (omega arith) _ _ w.if-k.false c.loop-i.invariant.2)
+        | then-k w ↦ rw (w.out-is, w.at-is) (put_one _ _ _ _ (omega arith) (omega arith) _ _ _ w.if-k.true w.tick-at.ensures c.loop-i.invariant.2)
+        | else-k w ↦ rw (w.out-is, w.at-is) (put_none _ _ _ _ (omega arith) (omega arith) _ _ w.if-k.false c.loop-i.invariant.2)
       ],
     )
 

@@ -9,7 +9,7 @@ returns c =
     record {
       result_after = rw (c.started.ensures, c.position.ensures) at c.lines.ensures;
       c_len_bound =
-        longest c.args.id c.args.c
+          longest c.args.id c.args.c
           c.requires
           (omega (arith, c.well_formed.1.1.0.1.1.1.0.1))
           (rw (← c.position.ensures) (omega (arith, c.position.type_inv)));

@@ -15,8 +15,7 @@ loop-i-init c = (omega arith, refl, all_left _ _)
 
 pub loop-i-preserved : goal.loop-i-preserved
 loop-i-preserved c =
-    let many = sixteen c.args.t _ c.well_formed.0 in
-    (
+    let many = sixteen c.args.t _ c.well_formed.0 in (
       omega arith,
       c.slot_lines-at.auto.out ∙ c.loop-i.invariant.1,
       slot_put c.args.t c.loop-i.i _ _ (omega (arith, many.keys)) (omega (arith, many.clocks)) _ _ c.slot_lines-at.ensures.c_len_bound c.slot_lines-at.ensures.result_after c.loop-i.invariant.2,

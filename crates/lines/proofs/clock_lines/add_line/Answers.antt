@@ -1,6 +1,5 @@
 -- `clock_lines::add_line` is proved: the speed is read, and the line ends behind it. Assumes nothing.
 use mathlib.Core.Path.{sym, ◌∙◌}
-
 use Rattle.lines.specs.ClockLines.{add_line}
 use Rattle.lines.proofs.clock_lines.add_line.Goals as goal
 

@@ -1,6 +1,5 @@
 -- `clock_lines::by_id_line` is proved: the id is read, and the line ends behind it. Assumes nothing.
 use mathlib.Core.Path.{sym, ◌∙◌}
-
 use Rattle.lines.specs.ClockLines.{by_id_line}
 use Rattle.lines.proofs.clock_lines.by_id_line.Goals as goal
 

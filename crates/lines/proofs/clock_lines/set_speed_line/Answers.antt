@@ -1,7 +1,6 @@
 -- `clock_lines::set_speed_line` is proved: the id, the speed and the tween are read, and the line ends behind them.
 -- Assumes nothing.
 use mathlib.Core.Path.{sym, ◌∙◌}
-
 use Rattle.lines.specs.ClockLines.{set_speed_line}
 use Rattle.lines.proofs.clock_lines.set_speed_line.Goals as goal
 

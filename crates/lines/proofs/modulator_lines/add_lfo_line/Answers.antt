@@ -1,7 +1,6 @@
 -- `modulator_lines::add_lfo_line` is proved: the waveform, the three values and the phase are read, and the line ends
 -- behind them. Assumes nothing.
 use mathlib.Core.Path.{sym, ◌∙◌}
-
 use Rattle.lines.specs.ModulatorLines.{add_lfo_line}
 use Rattle.lines.proofs.modulator_lines.add_lfo_line.Goals as goal
 

@@ -1,6 +1,5 @@
 -- `modulator_lines::add_tweener_line` is proved: the double is read, and the line ends behind it. Assumes nothing.
 use mathlib.Core.Path.{sym, ◌∙◌}
-
 use Rattle.lines.specs.ModulatorLines.{add_tweener_line}
 use Rattle.lines.proofs.modulator_lines.add_tweener_line.Goals as goal
 

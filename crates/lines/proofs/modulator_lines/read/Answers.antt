@@ -1,6 +1,5 @@
 -- `modulator_lines::read` is proved: the line ends behind the id. Assumes nothing.
 use mathlib.Core.Path.{sym, ◌∙◌}
-
 use Rattle.lines.specs.ModulatorLines.{read_line}
 use Rattle.lines.proofs.modulator_lines.read.Goals as goal
 

@@ -1,7 +1,6 @@
 -- `modulator_lines::set_parameter` is proved: the value and the tween are read, and the line ends behind them. Assumes
 -- nothing.
 use mathlib.Core.Path.{sym, ◌∙◌}
-
 use Rattle.lines.specs.ModulatorLines.{set_parameter_line}
 use Rattle.lines.proofs.modulator_lines.set_parameter.Goals as goal
 

@@ -1,6 +1,5 @@
 -- `modulator_lines::set_phase` is proved: the double is read, and the line ends behind it. Assumes nothing.
 use mathlib.Core.Path.{sym, ◌∙◌}
-
 use Rattle.lines.specs.ModulatorLines.{set_phase_line}
 use Rattle.lines.proofs.modulator_lines.set_phase.Goals as goal
 

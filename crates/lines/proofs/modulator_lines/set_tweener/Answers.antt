@@ -1,7 +1,6 @@
 -- `modulator_lines::set_tweener` is proved: the double and the tween are read, and the line ends behind them. Assumes
 -- nothing.
 use mathlib.Core.Path.{sym, ◌∙◌}
-
 use Rattle.lines.specs.ModulatorLines.{set_tweener_line}
 use Rattle.lines.proofs.modulator_lines.set_tweener.Goals as goal
 

@@ -1,6 +1,5 @@
 -- `modulator_lines::set_waveform` is proved: the waveform is read, and the line ends behind it. Assumes nothing.
 use mathlib.Core.Path.{sym, ◌∙◌}
-
 use Rattle.lines.specs.ModulatorLines.{set_waveform_line}
 use Rattle.lines.proofs.modulator_lines.set_waveform.Goals as goal
 

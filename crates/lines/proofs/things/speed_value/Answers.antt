@@ -1,7 +1,6 @@
 -- `things::speed_value` is proved: the word says whether a speed is read behind it, or an id and a mapping. Assumes
 -- nothing.
 use mathlib.Core.Path.{sym, ◌∙◌}
-
 use Rattle.grammar.proofs.Places.{first}
 use Rattle.lines.specs.Things.{speed_value_at}
 use Rattle.lines.proofs.things.speed_value.Goals as goal
