@@ -1,15 +1,12 @@
 -- `replay` meets its contract. The loop's invariant: the records that are left end, on the station as it stands, where
 -- all of them end on a fresh one. Assumes nothing.
-use Prim.Native.Nat.{ℕ, ◌+◌, ◌-◌}
 use native.Mathlib.Omega.{arith}
-use mathlib.Core.Path.{◌≡◌, sym, ap, ◌∙◌}
-use mathlib.Core.List.{List}
+use mathlib.Core.Path.{sym, ap, ◌∙◌}
 use Rattle.clock_table.specs.declared.Clocks.{Clocks}
 use Rattle.modulator_table.specs.declared.Modulators.{Modulators}
-use Rattle.station.specs.Stations.{fresh_station}
 use Rattle.station.specs.declared.Station.{Station}
 use Rattle.recording.specs.Recordings.{tape_at}
-use Rattle.recording.proofs.Places.{There, there}
+use Rattle.recording.proofs.Places.{there}
 use Rattle.play.specs.Asked.{taken_on}
 use Rattle.play.specs.Replays.{end_of, replayed, replay_of}
 use Rattle.play.specs.declared.Replayed.{Replayed}

@@ -1,6 +1,5 @@
 -- `replies::frame` is proved. The loop's invariant: what is put so far, with the text of the slots that are left behind
 -- it, is the whole text. Assumes nothing.
-use Prim.Native.Nat.{◌-◌}
 use native.Mathlib.Omega.{arith}
 use mathlib.Core.Path.{◌≡◌, refl, ap, ◌∙◌}
 use lib.ListN.{length}

@@ -1,6 +1,5 @@
 -- `replies::show` is proved. The loop's invariant: the first i bytes are shown, and the others are as before. Assumes
 -- nothing.
-use Prim.Native.Nat.{◌-◌}
 use native.Mathlib.Omega.{arith}
 use mathlib.Core.Path.{refl}
 use lib.ListN.{length-set}

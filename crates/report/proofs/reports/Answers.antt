@@ -1,6 +1,5 @@
 -- `report::reports` is proved. The loop's invariant: what is put so far, with the lines of the slots that are left
 -- behind it, is the lines of all slots, and the slots so far have no more than 96 bytes each. Assumes nothing.
-use Prim.Native.Nat.{◌-◌}
 use native.Mathlib.Omega.{arith}
 use mathlib.Core.Path.{refl, ◌∙◌}
 use Rattle.clock_table.proofs.Slots.{sixteen}
