@@ -1,6 +1,6 @@
 -- No NaN stops a clock: in every station that calls reach each clock's ticks per second are finite and not negative and
 -- its fraction lies in 0..1, and the set that would make one, from speed 0 to seconds per tick, is refused by BAD_SPEED
--- and leaves every clock as it was. 01, "Speeds"; RULES, no_nan. Assumes nothing.
+-- and leaves every clock as it was. 01, "Speeds"; RULES, no-nan. Assumes nothing.
 use Prim.Native.Nat.{ℕ, zero, suc, ◌*◌, ◌<◌}
 use native.Mathlib.Nat.{zero-mul, mul-pos, zero-lt-suc, lt_irrefl}
 use native.Mathlib.Omega.{arith}
@@ -49,7 +49,7 @@ all_holds P [] i x h a = let z : ◌≡◌ {A = ℕ} 0 1 = cc in absurd (omega a
 all_holds P (y ∷ l) zero x h a = let e : y ≡ x = cc in rw e at a.0
 all_holds P (y ∷ l) (suc i) x h a = all_holds P l i x h a.1
 
--- `Ticks` says it of one clock: RULES, no_nan. Of the calls is asked only that their floats are doubles: any number and
+-- `Ticks` says it of one clock: RULES, no-nan. Of the calls is asked only that their floats are doubles: any number and
 -- order of them, accepted or refused. It does not say how fast a clock ticks, nor that one moves: `summed` of
 -- `ServedOnTime` and `a_clock_goes_on_moving` of `Useful` do.
 module _ (cs : List Call) (F : All CallDoubles cs) where

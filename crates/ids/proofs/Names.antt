@@ -249,7 +249,7 @@ lowest ks i g e j h =
     let p : Gives ks i g = gives ks i g e in
     closed ks j (omega arith) (p.lowest j h)
 
--- where none is given, every slot is taken or used up: RULES, no_room
+-- where none is given, every slot is taken or used up: RULES, no-room
 pub no_room_lem : (ks : List Key) → free_of 0 ks ≡ no_room → (j : ℕ) → j < length ks → Closed ks j
 no_room_lem ks e j h = closed ks j h (none_free ks 0 e j)
 

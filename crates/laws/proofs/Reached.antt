@@ -1,8 +1,7 @@
 -- Every call keeps a sound station sound, frames and refused calls too, so every station that calls can reach is sound:
 -- no NaN or infinity in a speed or a value, no fraction outside 0..1 (`no_nan`); and a sound parameter that the caller
--- updates there stays sound, so its value is finite (`float_value_lem`, `speed_rate`, which stands for a reader). RULES,
--- no_nan.
--- Assumes nothing.
+-- updates there stays sound, so its value is finite (`float_value_lem`, `speed_rate`, which stands for a reader).
+-- RULES, no-nan. Assumes nothing.
 use Prim.Native.Nat.{ℕ, zero, suc, ◌+◌}
 use mathlib.Core.Path.{◌≡◌, refl}
 use mathlib.Core.Bool.{cond}

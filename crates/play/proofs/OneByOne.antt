@@ -1,6 +1,6 @@
 -- A replay ends where its records' calls end when they are made one by one: all of them, or those before the first that
 -- is refused. And a recording that writes an accepted run of calls down is replayed to where that run ended. 02, the
--- replay of a shift; RULES, one_by_one and recorder. Assumes nothing.
+-- replay of a shift; RULES, one-by-one and recorder. Assumes nothing.
 use Prim.Native.Nat.{ℕ, ◌+◌}
 use native.Mathlib.Omega.{arith}
 use mathlib.Core.Logic.{◌⊎◌, inl, inr}

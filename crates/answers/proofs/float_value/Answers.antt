@@ -1,4 +1,4 @@
--- `answers::float_value_lem` is proved: a fixed value is its double, and a linked one its modulator and its mapping.
+-- `answers::float_value` is proved: a fixed value is its double, and a linked one its modulator and its mapping.
 -- Assumes nothing.
 use Rattle.answers.proofs.float_value.Goals as goal
 

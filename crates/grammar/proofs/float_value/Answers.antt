@@ -1,4 +1,4 @@
--- `float_value_lem` is proved: the word says whether a float is read behind it, or an id and a mapping. Assumes nothing.
+-- `float_value` is proved: the word says whether a float is read behind it, or an id and a mapping. Assumes nothing.
 use mathlib.Core.Path.{sym, ◌∙◌}
 use Rattle.grammar.specs.Grammar.{float_value_at}
 use Rattle.grammar.proofs.Places.{first}

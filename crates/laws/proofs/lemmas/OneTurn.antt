@@ -1,5 +1,5 @@
 -- An accepted frame gives the clock of an id that lives exactly one turn, and a refused one none; either leaves the
--- tables as long as they were. RULES, frame-order and frame_refused. Assumes nothing.
+-- tables as long as they were. RULES, frame-order and frame-refused. Assumes nothing.
 use Prim.Native.Nat.{ℕ, zero, suc, ◌+◌, ◌≤◌, ◌<◌}
 use native.Mathlib.Decide.{ℕ_discrete}
 use native.Mathlib.Omega.{arith}
@@ -50,7 +50,7 @@ pub record Goes (t : Clocks) (id : ClockId) (c : Clock) (dt : Float) : Type 0 wh
   pub names : Names t id now
   pub turned : Turned dt c now
 
--- a turn is refused by TOO_FAR or TICKS_FULL, and never by 0: RULES, frame_refused
+-- a turn is refused by TOO_FAR or TICKS_FULL, and never by 0: RULES, frame-refused
 abbrev Numbered : Answer Ticked → Type 0
 Numbered (accepted t) = Unit {0}
 Numbered (refused n) = n ≡ 0 → ⊥

@@ -1,7 +1,7 @@
 -- The laws of a double that is taken off a time, as `Subtractions` states them: what an accepted subtraction leaves
 -- (`sub_earlier`, and `add_earlier` for a negative amount that is added), that taking 0 off changes nothing
--- (`zero_off`, `minus_zero_on`), and where 12 is given (`before_zero_lem`, `before_zero_added`). RULES, subtract-double and
--- before-zero. Assumes nothing.
+-- (`zero_off`, `minus_zero_on`), and where 12 is given (`before_zero_lem`, `before_zero_added`). RULES, subtract-double
+-- and before-zero. Assumes nothing.
 use Prim.Native.Nat.{ℕ, zero, suc, ◌+◌, ◌-◌, ◌*◌, ◌^◌, ◌≤◌, ◌<◌, zero-le}
 use native.Mathlib.Decide.{dec_le}
 use native.Mathlib.Nat.{le_trans, le_of_eq, le_of_lt, lt_of_not-le, lt_of_le_of_lt, sub-zero, one-mul, add-mul}

@@ -1,5 +1,5 @@
--- The proof of the cycle of calls {try_add_f64, try_sub_f64}: what has a minus sign goes to the other with its opposite,
--- which has none, and the rest to `later` or `earlier`. Assumes nothing.
+-- The proof of the cycle of calls {try_add_f64, try_sub_f64}: what has a minus sign goes to the other with its
+-- opposite, which has none, and the rest to `later` or `earlier`. Assumes nothing.
 use mathlib.Core.Path.{sym, subst, ◌∙◌}
 use Prim.Native.Nat.{ℕ, ◌<◌}
 use lib.Ieee.{neg}
