@@ -7,7 +7,7 @@ use Rattle.judge.proofs.Outcomes.{told}
 use Rattle.clock.specs.OneClock.{told_moved}
 use Rattle.clock.specs.declared.Moved.{Moved}
 use Rattle.clock.specs.declared.Moved.TheVariants as moved
-use Rattle.clock.proofs.new_clock.Reads as new_clock_lem
+use Rattle.clock.proofs.new_clock.Reads as new_clock
 use Rattle.clock.proofs.new_clock.Kinds as new-clock-kinds
 use Rattle.clock.proofs.position.Reads as position
 use Rattle.clock.proofs.position.Kinds as position-kinds
@@ -31,7 +31,7 @@ same_moved (moved.Is i) (moved.Refused n) e = cc
 same_moved (moved.Refused m) (moved.Is j) e = cc
 same_moved (moved.Refused m) (moved.Refused n) e = cc
 
-pub one_new_clock : One 0 new-clock-kinds.ps new-clock-kinds.r new_clock_lem.Post
+pub one_new_clock : One 0 new-clock-kinds.ps new-clock-kinds.r new_clock.Post
 one_new_clock κs a x y s t = equal
 
 pub one_position : One 0 position-kinds.ps position-kinds.r position.Post

@@ -39,7 +39,7 @@ from (suc left) j n k l h u w = step (dec_lt n (10 ^ j)) (dec_lt j k) (λ b. fro
     step (no a) (yes b) on = rw (le-ltb n (10 ^ j) (omega arith)) (on b)
     step (no a) (no b) on = absurd (omega (arith, tens {i = k} {j = j} (omega arith)))
 
--- the count of a number's digits is the one that `Fewest` allows
+-- the count of a number's digits is the one that `IsDigitCount` allows
 pub places_fixed : (n k : ℕ) → IsDigitCount 10 1 n k → k ≡ places_from n 1 n
 places_fixed n k f = from n 1 n k f.0 (bound (dec_lt 1 k)) f.1 f.2
   where

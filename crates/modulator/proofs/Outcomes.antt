@@ -3,7 +3,7 @@
 use Rattle.doubles.proofs.Outcomes.{One, equal}
 use Rattle.modulator.proofs.lfo.builder_faults.Reads as builder-faults
 use Rattle.modulator.proofs.lfo.builder_faults.Kinds as builder-faults-kinds
-use Rattle.modulator.proofs.lfo.new_lfo.Reads as new_lfo_lem
+use Rattle.modulator.proofs.lfo.new_lfo.Reads as new_lfo
 use Rattle.modulator.proofs.lfo.new_lfo.Kinds as new-lfo-kinds
 use Rattle.modulator.proofs.lfo.lfo_parameter.Reads as lfo-parameter
 use Rattle.modulator.proofs.lfo.lfo_parameter.Kinds as lfo-parameter-kinds
@@ -15,7 +15,7 @@ use Rattle.modulator.proofs.lfo.with_phase.Reads as with_phase
 use Rattle.modulator.proofs.lfo.with_phase.Kinds as with-phase-kinds
 use Rattle.modulator.proofs.lfo.update_lfo.Reads as update_lfo
 use Rattle.modulator.proofs.lfo.update_lfo.Kinds as update-lfo-kinds
-use Rattle.modulator.proofs.tweener.new_tweener.Reads as new_tweener_lem
+use Rattle.modulator.proofs.tweener.new_tweener.Reads as new_tweener
 use Rattle.modulator.proofs.tweener.new_tweener.Kinds as new-tweener-kinds
 use Rattle.modulator.proofs.tweener.tweener_faults.Reads as tweener-faults
 use Rattle.modulator.proofs.tweener.tweener_faults.Kinds as tweener-faults-kinds
@@ -27,7 +27,7 @@ use Rattle.modulator.proofs.tweener.update_tweener.Kinds as update-tweener-kinds
 pub one_builder_faults : One 0 builder-faults-kinds.ps builder-faults-kinds.r builder-faults.Post
 one_builder_faults κs a x y s t = equal
 
-pub one_new_lfo : One 0 new-lfo-kinds.ps new-lfo-kinds.r new_lfo_lem.Post
+pub one_new_lfo : One 0 new-lfo-kinds.ps new-lfo-kinds.r new_lfo.Post
 one_new_lfo κs a x y s t = equal
 
 pub one_lfo_parameter : One 0 lfo-parameter-kinds.ps lfo-parameter-kinds.r lfo-parameter.Post
@@ -45,7 +45,7 @@ one_with_phase κs a x y s t = equal
 pub one_update_lfo : One 0 update-lfo-kinds.ps update-lfo-kinds.r update_lfo.Post
 one_update_lfo κs a x y s t = equal
 
-pub one_new_tweener : One 0 new-tweener-kinds.ps new-tweener-kinds.r new_tweener_lem.Post
+pub one_new_tweener : One 0 new-tweener-kinds.ps new-tweener-kinds.r new_tweener.Post
 one_new_tweener κs a x y s t = equal
 
 pub one_tweener_faults : One 0 tweener-faults-kinds.ps tweener-faults-kinds.r tweener-faults.Post

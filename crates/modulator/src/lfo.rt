@@ -173,7 +173,7 @@ pub fn update_lfo(l: Lfo, dt: f64, sight: LfoSight) -> Lfo
     let frequency = seen(f, dt, by_frequency);
     let amplitude = seen(a, dt, by_amplitude);
     let offset = seen(o, dt, by_offset);
-    let phase = (l.phase + dt * frequency.raw) % 1.0;
+    let phase = doubles::remainder(l.phase + dt * frequency.raw, 1.0);
     let value = offset.raw + amplitude.raw * wave_value(waveform, phase);
     Lfo {
         waveform,

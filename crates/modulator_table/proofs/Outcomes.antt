@@ -21,7 +21,7 @@ use Rattle.modulator_table.proofs.add_lfo.Reads as add-lfo
 use Rattle.modulator_table.proofs.add_lfo.Kinds as add-lfo-kinds
 use Rattle.modulator_table.proofs.remove_modulator.Reads as remove-modulator
 use Rattle.modulator_table.proofs.remove_modulator.Kinds as remove-modulator-kinds
-use Rattle.modulator_table.proofs.set_tweener.Reads as set_tweener_lem
+use Rattle.modulator_table.proofs.set_tweener.Reads as set_tweener
 use Rattle.modulator_table.proofs.set_tweener.Kinds as set-tweener-kinds
 use Rattle.modulator_table.proofs.set_parameter.Reads as set-parameter
 use Rattle.modulator_table.proofs.set_parameter.Kinds as set-parameter-kinds
@@ -63,7 +63,7 @@ one_add_lfo κs a x y s t = told same_added x y
 pub one_remove_modulator : One 0 remove-modulator-kinds.ps remove-modulator-kinds.r remove-modulator.Post
 one_remove_modulator κs a x y s t = equal
 
-pub one_set_tweener : One 0 set-tweener-kinds.ps set-tweener-kinds.r set_tweener_lem.Post
+pub one_set_tweener : One 0 set-tweener-kinds.ps set-tweener-kinds.r set_tweener.Post
 one_set_tweener κs a x y s t = equal
 
 pub one_set_parameter : One 0 set-parameter-kinds.ps set-parameter-kinds.r set-parameter.Post

@@ -226,7 +226,7 @@ fn made(op: Op, x: f64) -> f64
         Op::Sub(y) => x - y,
         Op::Mul(y) => x * y,
         Op::Div(y) => x / y,
-        Op::Rem(y) => x % y,
+        Op::Rem(y) => doubles::remainder(x, y),
         Op::Neg => -x,
     }
 }

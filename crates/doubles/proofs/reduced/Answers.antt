@@ -1,6 +1,5 @@
 -- `reduced` is proved: a turn doubles what is left and takes d off it. Assumes nothing.
 use native.Mathlib.Nat.{mod-lt, mul-one}
-use mathlib.Core.Path.{refl}
 use Rattle.doubles.proofs.Remainders.{twice}
 use Rattle.doubles.proofs.reduced.Goals as goal
 

@@ -204,7 +204,7 @@ times s z j hi a c p F v h k =
 
 -- z less a number n * 2 ^ d from zero up, for z up to a / c, or below zero and b / k at most in size: the result is
 -- p / q at most in size
-module _ (n : ℕ) (d : ℤ) (hi : Float) (a c b k p q : ℕ) (Q : 0 < q) (F : T (fits binary64 hi)) (v : HasValue hi false p q) (apart_by : (x e : ℕ) → x * c ≤ a * e → (x * down d - n * up d * e + (n * up d * e - x * down d)) * q ≤ p * (e * down d)) (Joined-by : (x e : ℕ) → x * k ≤ b * e → (x * down d + n * up d * e) * q ≤ p * (e * down d)) where
+module _ (n : ℕ) (d : ℤ) (hi : Float) (a c b k p q : ℕ) (Q : 0 < q) (F : T (fits binary64 hi)) (v : HasValue hi false p q) (apart_by : (x e : ℕ) → x * c ≤ a * e → (x * down d - n * up d * e + (n * up d * e - x * down d)) * q ≤ p * (e * down d)) (joined_by : (x e : ℕ) → x * k ≤ b * e → (x * down d + n * up d * e) * q ≤ p * (e * down d)) where
   lessened : (z : Float) → Upto false z a c ⊎ Upto true z b k → (u : Bool) × Upto u (sub binary64 z (fin false n d)) p q
   unfolding sub add
   lessened nan (inl h) = absurd h
@@ -226,8 +226,8 @@ module _ (n : ℕ) (d : ℤ) (hi : Float) (a c b k p q : ℕ) (Q : 0 < q) (F : T
       go false (inr (inl y, h)) = absurd (false≢true y)
       go false (inr (inr z, h)) = apart_by (m * up e) (down e) (nothing c (a * down e) z)
       go true (inl (inl y, h)) = absurd (true≢false y)
-      go true (inl (inr z, h)) = Joined-by (m * up e) (down e) (nothing k (b * down e) z)
-      go true (inr h) = Joined-by (m * up e) (down e) h.1
+      go true (inl (inr z, h)) = joined_by (m * up e) (down e) (nothing k (b * down e) z)
+      go true (inr h) = joined_by (m * up e) (down e) h.1
 
 -- w - 1
 lowered : (w : Float) → Upto false w 3 1 ⊎ Upto true w 1 1 → Within 1 (sub binary64 w one_f)

@@ -7,4 +7,4 @@ use Rattle.modulator.proofs.lfo.update_lfo.Goals as goal
 pub returns : goal.returns
 unfolding update_lfo_of of_bits
 returns c =
-    rw (c.wave_value.ensures, c.seen-frequency.ensures, c.seen-amplitude.ensures, c.seen-offset.ensures)
+    rw (c.wave_value.ensures, c.remainder-phase.ensures, c.seen-frequency.ensures, c.seen-amplitude.ensures, c.seen-offset.ensures)
