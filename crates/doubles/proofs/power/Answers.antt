@@ -1,5 +1,5 @@
--- `power` is proved: below 2 ^ 52 a power of two is a subnormal's digits, and from there on an exponent's field. Assumes
--- nothing.
+-- `power` is proved: below 2 ^ 52 a power of two is a subnormal's digits, and from there on an exponent's field.
+-- Assumes nothing.
 use Prim.Native.Nat.{◌^◌, ◌<◌}
 use native.Mathlib.Omega.{arith}
 use lib.Pow.{pow-lt}
