@@ -8,7 +8,6 @@ use Rattle.record.specs.declared.field.Small.{Small}
 use Rattle.record.specs.declared.field.Small.TheVariants as small
 use Rattle.record.specs.declared.Op.{Op}
 use Rattle.record.specs.declared.Op.TheVariants as op
-use Rattle.record.specs.declared.Record.{Record}
 use Rattle.record.specs.declared.Part.{Part}
 use Rattle.record.specs.declared.Part.TheVariants as part
 use Rattle.record.specs.declared.Judged.{Judged}

@@ -1,6 +1,5 @@
 -- `digits::put` is proved. The loop's invariant: the first i bytes stand in the buffer from the place on, and every
 -- other byte is as before. Assumes nothing.
-use Prim.Native.Nat.{◌-◌}
 use native.Mathlib.Omega.{arith}
 use mathlib.Core.Path.{refl}
 use lib.ListN.{length-set}

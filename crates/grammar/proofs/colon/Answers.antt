@@ -1,6 +1,5 @@
 -- `colon` is proved. The loop's invariant: the run at `i` ends where the run at the front does. Assumes nothing.
 use borrow.Author.Tests.{eq-eqb, ne_eqb}
-use Prim.Native.Nat.{◌-◌}
 use mathlib.Core.Path.{◌∙◌}
 use Rattle.text.proofs.Runs.{run_stops, run_goes, run_ends}
 use Rattle.grammar.specs.Grammar.{no_colon}

@@ -1,7 +1,6 @@
 -- `line_length` is proved. The loop's invariant: the bytes passed belong to the first line. Assumes nothing.
 use Rattle.recording.proofs.Lines.{none, one_more}
 use native.Mathlib.Omega.{arith}
-use Prim.Native.Nat.{◌-◌}
 use Rattle.recording.proofs.line_length.Goals as goal
 
 pub loop-n-init : goal.loop-n-init

@@ -6,7 +6,6 @@ use Rattle.record.proofs.field.Lines.{onward}
 use Rattle.recording.specs.Recordings.{lines_from, tape_of, first_of}
 use lib.ListN.{drop_of_length-le}
 use lib.Seq.{length-take-le}
-use mathlib.Core.Bool.{false}
 use mathlib.Core.Path.{◌≡◌, refl, sym, ap, ◌∙◌}
 use native.Mathlib.Omega.{arith}
 use Prim.Native.Nat.{◌+◌}

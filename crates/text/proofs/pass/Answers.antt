@@ -1,7 +1,6 @@
 -- `text::pass` is proved. The loop's invariant: the run at `i` ends where the run at the first place does. Assumes
 -- nothing.
 use borrow.Author.Tests.{not-true, not-false}
-use Prim.Native.Nat.{◌-◌}
 use mathlib.Core.Path.{◌∙◌}
 use Rattle.text.specs.Words.{blanks}
 use Rattle.text.proofs.Runs.{run_stops, run_goes, run_ends}
