@@ -1,6 +1,11 @@
--- Any two outcomes that a statement allows coincide, the result and the buffer: `Same` of the crate `digits` says it of
+-- Any two outcomes that a statement allows coincide, the result and the `Out`: `Same` of the crate `doubles` says it of
 -- the very clause that the check reads off the source (`Reads.Post`). RULES, one-outcome. Assumes nothing.
+use denote.RattleType.{RattleType}
+use denote.Param.Laws.{Laws, IsCopy}
+use mir.Syntax.{Dict}
+use Rattle.std.specs.declared.clone.Clone
 use Rattle.digits.proofs.Outcomes.{Same, same}
+use Rattle.answers.specs.declared.Shown
 use Rattle.answers.proofs.speed.Reads as speed
 use Rattle.answers.proofs.speed.Kinds as speed-kinds
 use Rattle.answers.proofs.ease.Reads as ease
@@ -17,37 +22,60 @@ use Rattle.answers.proofs.float_value.Reads as float_value
 use Rattle.answers.proofs.float_value.Kinds as float-value-kinds
 use Rattle.answers.proofs.refused.Reads as refused
 use Rattle.answers.proofs.refused.Kinds as refused-kinds
-use Rattle.answers.proofs.floated.Reads as floated
-use Rattle.answers.proofs.floated.Kinds as floated-kinds
-use Rattle.answers.proofs.speeded.Reads as speeded
-use Rattle.answers.proofs.speeded.Kinds as speeded-kinds
+use Rattle.answers.proofs.F64Shown.show.Reads as show-float
+use Rattle.answers.proofs.F64Shown.show.Kinds as show-float-kinds
+use Rattle.answers.proofs.ClockSpeedShown.show.Reads as show-speed
+use Rattle.answers.proofs.ClockSpeedShown.show.Kinds as show-speed-kinds
+use Rattle.answers.proofs.ClockTimeShown.show.Reads as show-time
+use Rattle.answers.proofs.ClockTimeShown.show.Kinds as show-time-kinds
+use Rattle.answers.proofs.MappingF64Shown.show.Reads as show-float-map
+use Rattle.answers.proofs.MappingF64Shown.show.Kinds as show-float-map-kinds
+use Rattle.answers.proofs.ValueF64Shown.show.Reads as show-float-value
+use Rattle.answers.proofs.ValueF64Shown.show.Kinds as show-float-value-kinds
+use Rattle.answers.proofs.reply.Reads as reply
+use Rattle.answers.proofs.reply.Kinds as reply-kinds
 
-pub one_speed : Same 1 speed-kinds.ps speed-kinds.r speed.Post (λ κs s. s.0.now)
+pub one_speed : Same 2 speed-kinds.ps speed-kinds.r speed.Post (λ κs s. s.0.now)
 one_speed κs a x y s t = same
 
-pub one_ease : Same 1 ease-kinds.ps ease-kinds.r ease.Post (λ κs s. s.0.now)
+pub one_ease : Same 2 ease-kinds.ps ease-kinds.r ease.Post (λ κs s. s.0.now)
 one_ease κs a x y s t = same
 
-pub one_time : Same 1 time-kinds.ps time-kinds.r time.Post (λ κs s. s.0.now)
+pub one_time : Same 2 time-kinds.ps time-kinds.r time.Post (λ κs s. s.0.now)
 one_time κs a x y s t = same
 
-pub one_id : Same 1 id-kinds.ps id-kinds.r id.Post (λ κs s. s.0.now)
+pub one_id : Same 2 id-kinds.ps id-kinds.r id.Post (λ κs s. s.0.now)
 one_id κs a x y s t = same
 
-pub one_start : Same 1 start-kinds.ps start-kinds.r start.Post (λ κs s. s.0.now)
+pub one_start : Same 2 start-kinds.ps start-kinds.r start.Post (λ κs s. s.0.now)
 one_start κs a x y s t = same
 
-pub one_float_map : Same 1 float-map-kinds.ps float-map-kinds.r float-map.Post (λ κs s. s.0.now)
+pub one_float_map : Same 2 float-map-kinds.ps float-map-kinds.r float-map.Post (λ κs s. s.0.now)
 one_float_map κs a x y s t = same
 
-pub one_float_value : Same 1 float-value-kinds.ps float-value-kinds.r float_value.Post (λ κs s. s.0.now)
+pub one_float_value : Same 2 float-value-kinds.ps float-value-kinds.r float_value.Post (λ κs s. s.0.now)
 one_float_value κs a x y s t = same
 
-pub one_refused : Same 1 refused-kinds.ps refused-kinds.r refused.Post (λ κs s. s.0.now)
+pub one_refused : Same 2 refused-kinds.ps refused-kinds.r refused.Post (λ κs s. s.0.now)
 one_refused κs a x y s t = same
 
-pub one_floated : Same 1 floated-kinds.ps floated-kinds.r floated.Post (λ κs s. s.0.now)
-one_floated κs a x y s t = same
+pub one_show_float : Same 2 show-float-kinds.ps show-float-kinds.r show-float.Post (λ κs s. s.1.0.now)
+one_show_float κs a x y s t = same
 
-pub one_speeded : Same 1 speeded-kinds.ps speeded-kinds.r speeded.Post (λ κs s. s.0.now)
-one_speeded κs a x y s t = same
+pub one_show_speed : Same 2 show-speed-kinds.ps show-speed-kinds.r show-speed.Post (λ κs s. s.1.0.now)
+one_show_speed κs a x y s t = same
+
+pub one_show_time : Same 2 show-time-kinds.ps show-time-kinds.r show-time.Post (λ κs s. s.1.0.now)
+one_show_time κs a x y s t = same
+
+pub one_show_float_map : Same 2 show-float-map-kinds.ps show-float-map-kinds.r show-float-map.Post (λ κs s. s.1.0.now)
+one_show_float_map κs a x y s t = same
+
+pub one_show_float_value : Same 2 show-float-value-kinds.ps show-float-value-kinds.r show-float-value.Post (λ κs s. s.1.0.now)
+one_show_float_value κs a x y s t = same
+
+-- of each kind of value that has a text
+pub one_reply :
+    (T : RattleType) (L : Laws T) (C : IsCopy T) (k : Shown.Ghosts T.Denot) (d : Dict) (c : Clone.Ghosts T.Denot) (e : Dict)
+    → Same 3 (reply-kinds.ps T L C) (reply-kinds.r T L C) (reply.Post T L C k d c e) (λ κs s. s.0.now)
+one_reply T L C k d c e κs a x y s t = same

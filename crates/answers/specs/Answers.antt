@@ -1,20 +1,17 @@
 -- Answers as docs/BENCH.md writes them: the pieces of each text. Assumes nothing.
-use Rattle.std.specs.Prelude.{ℕ, List, [], ◌∷◌, ◌++◌}
+use Rattle.std.specs.Prelude.{ℕ, List, [], ◌∷◌, ◌++◌, Float}
 use Rattle.digits.specs.Digits.{number_text, float_text}
 use Rattle.values.specs.declared.clock_speed.ClockSpeed.{ClockSpeed}
 use Rattle.values.specs.declared.clock_speed.ClockSpeed.TheVariants.{SecondsPerTick, TicksPerSecond, TicksPerMinute}
-use Rattle.values.specs.declared.clock_speed.Speeded.{Speeded}
-use Rattle.values.specs.declared.clock_speed.Speeded.TheVariants as speeded
-use Rattle.judge.specs.declared.Floated.{Floated}
-use Rattle.judge.specs.declared.Floated.TheVariants as floated
+use Rattle.judge.specs.Answer.{Answer, accepted, refused}
 use Rattle.times.specs.declared.start_time.StartTime.{StartTime}
 use Rattle.times.specs.declared.start_time.StartTime.TheVariants.{Immediate, Delayed, At}
 use Rattle.times.specs.declared.time.ClockTime.{ClockTime}
 use Rattle.times.specs.declared.tween.Easing.{Easing}
 use Rattle.times.specs.declared.tween.Easing.TheVariants.{Linear, InPowi, OutPowi, InOutPowi}
-use Rattle.values.specs.declared.value.FloatMapping.{FloatMapping}
-use Rattle.values.specs.declared.value.FloatValue.{FloatValue}
-use Rattle.values.specs.declared.value.FloatValue.TheVariants.{Fixed, FromModulator}
+use Rattle.values.specs.declared.value.Mapping.{Mapping}
+use Rattle.values.specs.declared.value.Value.{Value}
+use Rattle.values.specs.declared.value.Value.TheVariants.{Fixed, FromModulator}
 
 -- ---- words: each with the blank that parts it from what follows, if something does
 
@@ -76,6 +73,10 @@ refused_word = 0x72 ∷ 0x65 ∷ 0x66 ∷ 0x75 ∷ 0x73 ∷ 0x65 ∷ 0x64 ∷ bl
 abbrev pub id_text : ℕ → ℕ → List (List ℕ)
 id_text slot generation = number_text slot ∷ colon ∷ number_text generation ∷ []
 
+-- "F: 16 lower-case hex digits, a double's bits"
+abbrev pub float_pieces : Float → List (List ℕ)
+float_pieces x = float_text x ∷ []
+
 -- "SPEED: spt F | tps F | tpm F"
 abbrev pub speed_text : ClockSpeed → List (List ℕ)
 speed_text (SecondsPerTick x) = spt ∷ float_text x ∷ []
@@ -100,12 +101,12 @@ start_text (Delayed ns) = del ∷ number_text ns ∷ []
 start_text (At t) = clk ∷ (id_text t.clock.slot t.clock.generation ++ (blank ∷ time_text t))
 
 -- "FMAP: F F F F EASE (in lo, in hi, out lo, out hi, easing)"
-abbrev pub float_map_text : FloatMapping → List (List ℕ)
+abbrev pub float_map_text : Mapping Float → List (List ℕ)
 float_map_text m =
     float_text m.in_lo ∷ blank ∷ float_text m.in_hi ∷ blank ∷ float_text m.out_lo ∷ blank ∷ float_text m.out_hi ∷ blank ∷ ease_text m.easing
 
 -- "FVAL: fix F | mod ID FMAP"
-abbrev pub float_value_text : FloatValue → List (List ℕ)
+abbrev pub float_value_text : Value Float → List (List ℕ)
 float_value_text (Fixed x) = fix_word ∷ float_text x ∷ []
 float_value_text (FromModulator i m) = mod_word ∷ (id_text i.slot i.generation ++ (blank ∷ float_map_text m))
 
@@ -115,10 +116,7 @@ float_value_text (FromModulator i m) = mod_word ∷ (id_text i.slot i.generation
 abbrev pub refused_text : ℕ → List (List ℕ)
 refused_text n = refused_word ∷ number_text n ∷ []
 
-abbrev pub floated_text : Floated → List (List ℕ)
-floated_text (floated.Is x) = float_text x ∷ []
-floated_text (floated.Refused n) = refused_text n
-
-abbrev pub speeded_text : Speeded → List (List ℕ)
-speeded_text (speeded.Is s) = speed_text s
-speeded_text (speeded.Refused n) = refused_text n
+-- what an answer is, by the text of the value that it answers with
+abbrev pub reply_text : {A : Type 0} → (A → List (List ℕ)) → Answer A → List (List ℕ)
+reply_text text (accepted x) = text x
+reply_text text (refused n) = refused_text n

@@ -1,106 +1,78 @@
 // The calls ease, lerp and wave, and dur.secs and tween.default.
 ghost use Rattle.std.specs.Prelude.{◌≡◌};
-ghost use Rattle.digits.specs.Puts.{place, put_all, line_of};
-ghost use Rattle.calls.specs.Calls.{tween_text, ease_reply, lerp_reply, wave_reply, secs_reply, default_reply, curves_of};
+ghost use Rattle.digits.specs.Outs.{put_in};
+ghost use Rattle.digits.specs.Puts.{line_of};
+ghost use Rattle.calls.specs.Calls.{answered, tween_text, ease_reply, wave_reply, secs_reply, default_reply, curves_of};
 
-use grammar::{EaseAt, FloatAt, NumberAt, WaveAt};
+use crate::lerps;
+use digits::Out;
 use names::CurveCall;
+use text::words::Words;
 use times::tween::Tween;
 use times::{duration, tween};
-use values::tweenable;
 
-fn ease(line: &[u8], at: usize, out: &mut [u8]) -> usize
-    ensures { place out.new result ≡ put_all (place out.old 0) (ease_reply line.now at) }
+#[tactic(auto, unfolding(crate::specs::Calls::ease_reply))]
+fn ease(mut words: Words<'_>, out: &mut Out) -> Option<()>
+    ensures { record { told = result; out = out.new } ≡ answered out.old (ease_reply words.entry.line.now words.entry.at) }
 {
-    let EaseAt::Is(e, behind) = grammar::ease(line, at) else {
-        return 0;
-    };
-    let FloatAt::Is(x, to) = grammar::float(line, behind) else {
-        return 0;
-    };
-    if !grammar::ended(line, to) {
-        return 0;
-    }
-    answers::floated(out, tween::try_apply(e, x))
+    let e = grammar::ease(&mut words)?;
+    let x = grammar::float(&mut words)?;
+    grammar::end(&words)?;
+    answers::reply(out, tween::try_apply(e, x));
+    Some(())
 }
 
-fn lerp(line: &[u8], at: usize, out: &mut [u8]) -> usize
-    ensures { place out.new result ≡ put_all (place out.old 0) (lerp_reply line.now at) }
+#[tactic(auto, unfolding(crate::specs::Calls::wave_reply))]
+fn wave(mut words: Words<'_>, out: &mut Out) -> Option<()>
+    ensures { record { told = result; out = out.new } ≡ answered out.old (wave_reply words.entry.line.now words.entry.at) }
 {
-    let FloatAt::Is(a, to_a) = grammar::float(line, at) else {
-        return 0;
-    };
-    let FloatAt::Is(b, to_b) = grammar::float(line, to_a) else {
-        return 0;
-    };
-    let FloatAt::Is(amount, to) = grammar::float(line, to_b) else {
-        return 0;
-    };
-    if !grammar::ended(line, to) {
-        return 0;
-    }
-    answers::floated(out, tweenable::try_interpolate(a, b, amount))
+    let w = grammar::wave(&mut words)?;
+    let phase = grammar::float(&mut words)?;
+    grammar::end(&words)?;
+    answers::reply(out, waveform::try_wave_value(w, phase));
+    Some(())
 }
 
-fn wave(line: &[u8], at: usize, out: &mut [u8]) -> usize
-    ensures { place out.new result ≡ put_all (place out.old 0) (wave_reply line.now at) }
+#[tactic(auto, unfolding(crate::specs::Calls::secs_reply))]
+fn secs(mut words: Words<'_>, out: &mut Out) -> Option<()>
+    ensures { record { told = result; out = out.new } ≡ answered out.old (secs_reply words.entry.line.now words.entry.at) }
 {
-    let WaveAt::Is(w, behind) = grammar::wave(line, at) else {
-        return 0;
-    };
-    let FloatAt::Is(phase, to) = grammar::float(line, behind) else {
-        return 0;
-    };
-    if !grammar::ended(line, to) {
-        return 0;
-    }
-    answers::floated(out, waveform::try_wave_value(w, phase))
-}
-
-fn secs(line: &[u8], at: usize, out: &mut [u8]) -> usize
-    ensures { place out.new result ≡ put_all (place out.old 0) (secs_reply line.now at) }
-{
-    let NumberAt::Is(ns, to) = grammar::number(line, at) else {
-        return 0;
-    };
-    if !grammar::ended(line, to) {
-        return 0;
-    }
-    answers::floated(out, duration::try_as_secs_f64(ns))
+    let ns = grammar::number(&mut words)?;
+    grammar::end(&words)?;
+    answers::reply(out, duration::try_as_secs_f64(ns));
+    Some(())
 }
 
 // A whole answer: START NS EASE.
-fn tween(out: &mut [u8], t: Tween) -> usize
-    ensures { place out.new result ≡ put_all (place out.old 0) (line_of (tween_text t)) }
+fn tween(out: &mut Out, t: Tween)
+    ensures { out.new ≡ put_in out.old (line_of (tween_text t)) }
 {
-    let start = t.start_time;
-    let easing = t.easing;
-    let a = answers::start(out, 0, start);
-    let b = digits::put(out, a, b" ");
-    let c = digits::number(out, b, t.duration);
-    let d = digits::put(out, c, b" ");
-    let e = answers::ease(out, d, easing);
-    digits::end(out, e)
+    answers::start(out, t.start_time);
+    out.put(b" ");
+    out.number(t.duration);
+    out.put(b" ");
+    answers::ease(out, t.easing);
+    out.end();
 }
 
-fn default_tween(line: &[u8], at: usize, out: &mut [u8]) -> usize
-    ensures { place out.new result ≡ put_all (place out.old 0) (default_reply line.now at) }
+#[tactic(auto, unfolding(crate::specs::Calls::default_reply))]
+fn default_tween(words: Words<'_>, out: &mut Out) -> Option<()>
+    ensures { record { told = result; out = out.new } ≡ answered out.old (default_reply words.entry.line.now words.entry.at) }
 {
-    if !grammar::ended(line, at) {
-        return 0;
-    }
-    tween(out, tween::default_tween())
+    grammar::end(&words)?;
+    tween(out, tween::default_tween());
+    Some(())
 }
 
-// The answer's length, or 0 where the line is no call, behind its name.
-pub fn call(line: &[u8], at: usize, call: CurveCall, out: &mut [u8]) -> usize
-    ensures { place out.new result ≡ put_all (place out.old 0) (curves_of line.now at call) }
+#[tactic(auto, unfolding(crate::specs::Calls::curves_of))]
+pub fn call(words: Words<'_>, call: CurveCall, out: &mut Out) -> Option<()>
+    ensures { record { told = result; out = out.new } ≡ answered out.old (curves_of words.entry.line.now words.entry.at call) }
 {
     match call {
-        CurveCall::Ease => ease(line, at, out),
-        CurveCall::Lerp => lerp(line, at, out),
-        CurveCall::Wave => wave(line, at, out),
-        CurveCall::DurSecs => secs(line, at, out),
-        CurveCall::TweenDefault => default_tween(line, at, out),
+        CurveCall::Ease => ease(words, out),
+        CurveCall::Lerp => lerps::call::<f64>(words, out),
+        CurveCall::Wave => wave(words, out),
+        CurveCall::DurSecs => secs(words, out),
+        CurveCall::TweenDefault => default_tween(words, out),
     }
 }

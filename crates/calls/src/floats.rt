@@ -1,34 +1,29 @@
 // The calls f.*: a double in, a double out.
 ghost use Rattle.std.specs.Prelude.{◌≡◌};
-ghost use Rattle.digits.specs.Puts.{place, put_all};
-ghost use Rattle.calls.specs.Calls.{float_line, floats_of};
+ghost use Rattle.calls.specs.Calls.{answered, double_of, floats_of};
 
-use grammar::FloatAt;
+use digits::Out;
 use names::DoubleCall;
+use text::words::Words;
 
-// A whole answer: a double.
-fn answer(out: &mut [u8], x: f64) -> usize
-    ensures { place out.new result ≡ put_all (place out.old 0) (float_line x) }
+fn double(call: DoubleCall, x: f64) -> f64
+    ensures { result ≡ double_of call x }
 {
-    let at = digits::float(out, 0, x);
-    digits::end(out, at)
+    match call {
+        DoubleCall::Trunc => doubles::whole(x),
+        DoubleCall::Fract => doubles::fract(x),
+        DoubleCall::Ceil => doubles::ceil(x),
+        DoubleCall::Abs => doubles::abs(x),
+        DoubleCall::Clamp => doubles::clamp01(x),
+    }
 }
 
-// The answer's length, or 0 where the line is no call, behind its name.
-pub fn call(line: &[u8], at: usize, call: DoubleCall, out: &mut [u8]) -> usize
-    ensures { place out.new result ≡ put_all (place out.old 0) (floats_of line.now at call) }
+#[tactic(auto, unfolding(crate::specs::Calls::floats_of))]
+pub fn call(mut words: Words<'_>, call: DoubleCall, out: &mut Out) -> Option<()>
+    ensures { record { told = result; out = out.new } ≡ answered out.old (floats_of words.entry.line.now words.entry.at call) }
 {
-    let FloatAt::Is(x, to) = grammar::float(line, at) else {
-        return 0;
-    };
-    if !grammar::ended(line, to) {
-        return 0;
-    }
-    match call {
-        DoubleCall::Trunc => answer(out, doubles::whole(x)),
-        DoubleCall::Fract => answer(out, doubles::fract(x)),
-        DoubleCall::Ceil => answer(out, doubles::ceil(x)),
-        DoubleCall::Abs => answer(out, doubles::abs(x)),
-        DoubleCall::Clamp => answer(out, doubles::clamp01(x)),
-    }
+    let x = grammar::float(&mut words)?;
+    grammar::end(&words)?;
+    answers::reply(out, Ok(double(call, x)));
+    Some(())
 }

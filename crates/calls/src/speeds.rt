@@ -1,54 +1,30 @@
-// The calls speed.*.
+// The calls that read a speed in a unit: speed.spt, speed.tps and speed.tpm.
 ghost use Rattle.std.specs.Prelude.{◌≡◌};
-ghost use Rattle.digits.specs.Puts.{place, put_all};
-ghost use Rattle.calls.specs.Calls.{between_reply, speed_lerp_reply, speeds_of};
+ghost use Rattle.judge.specs.Answer.{told};
+ghost use Rattle.calls.specs.Calls.{answered, unit_of, speeds_of};
 
-use grammar::{FloatAt, SpeedAt};
+use digits::Out;
+use judge::Refusal;
 use names::SpeedCall;
-use values::clock_speed::{
-    ClockSpeed, try_as_seconds_per_tick, try_as_ticks_per_minute, try_as_ticks_per_second,
-    try_interpolate_speed,
-};
+use text::words::Words;
+use values::clock_speed::ClockSpeed;
 
-// The call speed.lerp, behind its first speed.
-fn between(line: &[u8], at: usize, a: ClockSpeed, out: &mut [u8]) -> usize
-    ensures { place out.new result ≡ put_all (place out.old 0) (between_reply line.now at a) }
+fn unit(call: SpeedCall, s: ClockSpeed) -> Result<f64, Refusal>
+    ensures { told result ≡ unit_of call s }
 {
-    let SpeedAt::Is(b, behind) = grammar::speed(line, at) else {
-        return 0;
-    };
-    let FloatAt::Is(amount, to) = grammar::float(line, behind) else {
-        return 0;
-    };
-    if !grammar::ended(line, to) {
-        return 0;
-    }
-    answers::speeded(out, try_interpolate_speed(a, b, amount))
-}
-
-// The answer's length to the call speed.lerp, or 0 where the line is no call, behind its name.
-pub fn lerp(line: &[u8], at: usize, out: &mut [u8]) -> usize
-    ensures { place out.new result ≡ put_all (place out.old 0) (speed_lerp_reply line.now at) }
-{
-    let SpeedAt::Is(a, behind) = grammar::speed(line, at) else {
-        return 0;
-    };
-    between(line, behind, a, out)
-}
-
-// The answer's length to a call that reads a speed in a unit, or 0 where the line is no call, behind its name.
-pub fn call(line: &[u8], at: usize, call: SpeedCall, out: &mut [u8]) -> usize
-    ensures { place out.new result ≡ put_all (place out.old 0) (speeds_of line.now at call) }
-{
-    let SpeedAt::Is(s, to) = grammar::speed(line, at) else {
-        return 0;
-    };
-    if !grammar::ended(line, to) {
-        return 0;
-    }
     match call {
-        SpeedCall::Spt => answers::floated(out, try_as_seconds_per_tick(s)),
-        SpeedCall::Tps => answers::floated(out, try_as_ticks_per_second(s)),
-        SpeedCall::Tpm => answers::floated(out, try_as_ticks_per_minute(s)),
+        SpeedCall::Spt => s.try_as_seconds_per_tick(),
+        SpeedCall::Tps => s.try_as_ticks_per_second(),
+        SpeedCall::Tpm => s.try_as_ticks_per_minute(),
     }
+}
+
+#[tactic(auto, unfolding(crate::specs::Calls::speeds_of))]
+pub fn call(mut words: Words<'_>, call: SpeedCall, out: &mut Out) -> Option<()>
+    ensures { record { told = result; out = out.new } ≡ answered out.old (speeds_of words.entry.line.now words.entry.at call) }
+{
+    let s = grammar::speed(&mut words)?;
+    grammar::end(&words)?;
+    answers::reply(out, unit(call, s));
+    Some(())
 }

@@ -1,4 +1,5 @@
--- Laws that the functions' proofs and the crates above cite: `Slots` on what a table of clocks tells of itself,
--- `Outcomes` on the statements themselves.
+-- Laws that the functions' proofs and the crates above cite: `Slots` on what is stored, `Outcomes` on the statements
+-- themselves. `Lookups` is what the proofs of the calls cite.
 pub mod Slots
 pub mod Outcomes
+pub mod Lookups

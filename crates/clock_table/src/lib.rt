@@ -2,286 +2,147 @@
 
 #![tactic(auto)]
 
-ghost use Rattle.std.specs.Prelude.{◌<◌, ◌≡◌, true, false};
-ghost use Rattle.times.specs.Times.{told_time};
-ghost use Rattle.values.specs.Speeds.{told_speed};
-ghost use Rattle.clock_table.specs.ClockTables.{no_clocks, told_looked, look_of, told_named, named_by, clock_by, told_added, add_clock_of, remove_of, tick_on_of, reset_clock_of, ticking_by, reset_by, speed_by, set_speed_of, time_of, clock_time_of, clock_ticking_of, clock_speed_of, told_flag};
+ghost use Rattle.std.specs.Prelude.{◌≡◌, true, false};
+ghost use Rattle.judge.specs.Answer.{told};
+ghost use Rattle.ids.specs.Tables.{done, added};
+ghost use Rattle.clock_table.specs.ClockTables.{no_clocks, look_of, add_clock_of, remove_of, tick_on_of, reset_clock_of, set_speed_of, time_of, clock_time_of, clock_ticking_of, clock_speed_of};
 
-use clock::{Clock, new_clock, position, reset, with_speed, with_ticking};
-use ids::{Key, Placed, find, left, place};
-use judge::first_fault;
-use parameter::speed::try_set_speed;
-use times::time::{ClockId, ClockTime, Timed, time_at};
+use clock::Clock;
+use ids::{Key, find, free};
+use judge::Refusal;
+use times::time::{ClockId, ClockTime, time_at};
 use times::tween::Tween;
-use values::clock_speed::{ClockSpeed, Speeded};
-use values::value::{SpeedValue, speed_value_faults};
+use values::clock_speed::ClockSpeed;
+use values::value::Value;
 
-// A key and a clock for each slot. What a slot that is not used holds is not read.
+// A key and a clock for each slot. What a slot that is not used holds is not read. Keys stand apart, since the search
+// and the lookup of `ids`, and the definitions that its theorems speak of (`free_of`, `find_of`), go over keys alone.
 #[derive(Clone, Copy)]
 pub struct Clocks {
     pub keys: [Key; 16],
     pub clocks: [Clock; 16],
 }
 
-// The table after a call, and 0 or the number of its refusal: then the table is as it was.
-#[derive(Clone, Copy)]
-pub struct ClockDone {
-    pub refused: u32,
-    pub table: Clocks,
-}
-
-#[derive(Clone, Copy)]
-pub enum ClockNamed {
-    Is(ClockId),
-    Refused(u32),
-}
-
-#[derive(Clone, Copy)]
-pub struct ClockAdded {
-    pub answer: ClockNamed,
-    pub table: Clocks,
-}
-
-#[derive(Clone, Copy)]
-pub enum Flagged {
-    Is(bool),
-    Refused(u32),
-}
-
-// The clock that an id names, with its slot; or the number that a call on it is refused with.
-#[derive(Clone, Copy)]
-pub enum Looked {
-    At(usize, Clock),
-    Refused(u32),
-}
-
-// A clock as a set of its speed leaves it, and 0 or the number of the refusal: then the clock is as it was.
-#[derive(Clone, Copy)]
-struct Sped {
-    refused: u32,
-    clock: Clock,
-}
-
-pub fn no_clocks() -> Clocks
-    ensures { result ≡ no_clocks }
+fn time_of(id: ClockId, c: &Clock) -> ClockTime
+    ensures { result ≡ time_of id c.now }
 {
-    let key = Key {
-        used: false,
-        generation: 0,
-    };
-    let clock = new_clock(SpeedValue::Fixed(ClockSpeed::TicksPerSecond(0.0)));
-    Clocks {
-        keys: [key; 16],
-        clocks: [clock; 16],
-    }
-}
-
-// The id of a place, or the number of its refusal.
-fn named(p: Placed) -> ClockNamed
-    requires { p.slot < 16 }
-    ensures { told_named result ≡ named_by p }
-{
-    if p.refused != 0 {
-        return ClockNamed::Refused(p.refused);
-    }
-    ClockNamed::Is(ClockId {
-        slot: p.slot as u32,
-        generation: p.key.generation,
-    })
-}
-
-// A new clock, or the old one c where the number n refuses it.
-fn clock_by(n: u32, c: Clock, speed: SpeedValue) -> Clock
-    ensures { result ≡ clock_by n c speed }
-{
-    if n != 0 {
-        return c;
-    }
-    new_clock(speed)
-}
-
-// Whatever becomes of a call, the table is stored to once and goes out by one exit: a second one would copy it again
-// (docs/SPEED.md). What is stored is chosen before, and is what stood there where the call is refused.
-pub fn add_clock(t: Clocks, speed: SpeedValue) -> ClockAdded
-    ensures { told_added result ≡ add_clock_of t speed }
-{
-    let mut table = t;
-    let keys = table.keys;
-    let p = place(keys, first_fault(speed_value_faults(speed)));
-    let i = p.slot;
-    let key = p.key;
-    let c = table.clocks[i];
-    table.keys[i] = key;
-    table.clocks[i] = clock_by(p.refused, c, speed);
-    ClockAdded {
-        answer: named(p),
-        table,
-    }
-}
-
-// The clock that an id names, for whoever only reads it.
-pub fn look(t: Clocks, id: ClockId) -> Looked
-    ensures { told_looked result ≡ look_of t id }
-{
-    let keys = t.keys;
-    let found = find(keys, id.slot, id.generation);
-    if found.refused != 0 {
-        return Looked::Refused(found.refused);
-    }
-    let i = found.slot;
-    let c = t.clocks[i];
-    Looked::At(i, c)
-}
-
-pub fn remove_clock(t: Clocks, id: ClockId) -> ClockDone
-    ensures { result ≡ remove_of t id }
-{
-    let mut table = t;
-    let keys = table.keys;
-    let found = find(keys, id.slot, id.generation);
-    let i = found.slot;
-    let key = keys[i];
-    table.keys[i] = left(found.refused, key, id.generation);
-    ClockDone {
-        refused: found.refused,
-        table,
-    }
-}
-
-// A clock started or stopped, unless the number n refuses it.
-fn ticking_by(n: u32, c: Clock, ticking: bool) -> Clock
-    ensures { result ≡ ticking_by ticking n c }
-{
-    if n != 0 {
-        return c;
-    }
-    with_ticking(c, ticking)
-}
-
-// Starts a clock, or stops it.
-fn set_ticking(t: Clocks, id: ClockId, ticking: bool) -> ClockDone
-    ensures { result ≡ tick_on_of ticking t id }
-{
-    let mut table = t;
-    let keys = table.keys;
-    let found = find(keys, id.slot, id.generation);
-    let i = found.slot;
-    let c = table.clocks[i];
-    table.clocks[i] = ticking_by(found.refused, c, ticking);
-    ClockDone {
-        refused: found.refused,
-        table,
-    }
-}
-
-pub fn start_clock(t: Clocks, id: ClockId) -> ClockDone
-    ensures { result ≡ tick_on_of true t id }
-{
-    set_ticking(t, id, true)
-}
-
-pub fn stop_clock(t: Clocks, id: ClockId) -> ClockDone
-    ensures { result ≡ tick_on_of false t id }
-{
-    set_ticking(t, id, false)
-}
-
-// A clock reset, unless the number n refuses it.
-fn reset_by(n: u32, c: Clock) -> Clock
-    ensures { result ≡ reset_by n c }
-{
-    if n != 0 {
-        return c;
-    }
-    reset(c)
-}
-
-pub fn reset_clock(t: Clocks, id: ClockId) -> ClockDone
-    ensures { result ≡ reset_clock_of t id }
-{
-    let mut table = t;
-    let keys = table.keys;
-    let found = find(keys, id.slot, id.generation);
-    let i = found.slot;
-    let c = table.clocks[i];
-    table.clocks[i] = reset_by(found.refused, c);
-    ClockDone {
-        refused: found.refused,
-        table,
-    }
-}
-
-// A clock with its speed set, unless that is refused, by the number n or by its own.
-fn speed_by(n: u32, c: Clock, target: SpeedValue, tween: Tween) -> Sped
-    ensures { result ≡ speed_by target tween n c }
-{
-    if n != 0 {
-        return Sped {
-            refused: n,
-            clock: c,
-        };
-    }
-    let p = c.speed;
-    let set = try_set_speed(p, target, tween);
-    let speed = set.parameter;
-    Sped {
-        refused: set.refused,
-        clock: with_speed(c, speed),
-    }
-}
-
-pub fn set_clock_speed(t: Clocks, id: ClockId, target: SpeedValue, tween: Tween) -> ClockDone
-    ensures { result ≡ set_speed_of t id target tween }
-{
-    let mut table = t;
-    let keys = table.keys;
-    let found = find(keys, id.slot, id.generation);
-    let i = found.slot;
-    let c = table.clocks[i];
-    let s = speed_by(found.refused, c, target, tween);
-    let clock = s.clock;
-    table.clocks[i] = clock;
-    ClockDone {
-        refused: s.refused,
-        table,
-    }
-}
-
-fn time_of(id: ClockId, c: Clock) -> ClockTime
-    ensures { result ≡ time_of id c }
-{
-    let state = c.state;
-    let p = position(state);
+    let p = c.state.position();
     time_at(id, p.ticks, p.fraction)
 }
 
-pub fn clock_time(t: Clocks, id: ClockId) -> Timed
-    ensures { told_time result ≡ clock_time_of t id }
-{
-    match look(t, id) {
-        Looked::At(_, c) => Timed::At(time_of(id, c)),
-        Looked::Refused(n) => Timed::Refused(n),
-    }
-}
-
-pub fn clock_ticking(t: Clocks, id: ClockId) -> Flagged
-    ensures { told_flag result ≡ clock_ticking_of t id }
-{
-    match look(t, id) {
-        Looked::At(_, c) => Flagged::Is(c.ticking),
-        Looked::Refused(n) => Flagged::Refused(n),
-    }
-}
-
-pub fn clock_speed(t: Clocks, id: ClockId) -> Speeded
-    ensures { told_speed result ≡ clock_speed_of t id }
-{
-    match look(t, id) {
-        Looked::At(_, c) => {
-            let p = c.speed;
-            let raw = p.raw;
-            Speeded::Is(raw)
+// A call that is refused leaves the table as it was.
+impl Clocks {
+    pub fn new() -> Clocks
+        ensures { result ≡ no_clocks }
+    {
+        let rest = Value::Fixed(ClockSpeed::TicksPerSecond(0.0));
+        Clocks {
+            keys: [Key::left(0); 16],
+            clocks: [Clock::new(rest); 16],
         }
-        Looked::Refused(n) => Speeded::Refused(n),
+    }
+
+    #[tactic(auto, using(crate::proofs::Lookups::found), unfolding(crate::specs::ClockTables::add_clock_of))]
+    pub fn add(&mut self, speed: Value<ClockSpeed>) -> Result<ClockId, Refusal>
+        ensures { added result self.new ≡ add_clock_of self.old speed }
+    {
+        speed.faults().accept()?;
+        let Some(room) = free(&self.keys) else {
+            return Err(Refusal::NoRoom);
+        };
+        self.keys[room.slot] = Key::taken(room.generation);
+        self.clocks[room.slot] = Clock::new(speed);
+        Ok(ClockId {
+            slot: room.slot as u32,
+            generation: room.generation,
+        })
+    }
+
+    // The clock that an id names, with its slot, for whoever only reads it.
+    #[tactic(auto, using(crate::proofs::Lookups::found), unfolding(crate::specs::ClockTables::look_of))]
+    pub fn look(&self, id: ClockId) -> Result<(usize, Clock), Refusal>
+        ensures { told result ≡ look_of self.now id }
+    {
+        let i = find(&self.keys, id.slot, id.generation)?;
+        Ok((i, self.clocks[i]))
+    }
+
+    // That of a modulator differs in the type of the id. One table for both kinds would be no plainer: each of these
+    // calls would be a second one, on the table inside.
+    #[tactic(auto, using(crate::proofs::Lookups::found), unfolding(crate::specs::ClockTables::remove_of))]
+    pub fn remove(&mut self, id: ClockId) -> Result<(), Refusal>
+        ensures { done result self.new ≡ remove_of self.old id }
+    {
+        let i = find(&self.keys, id.slot, id.generation)?;
+        self.keys[i] = Key::left(id.generation);
+        Ok(())
+    }
+
+    // Starts a clock, or stops it.
+    #[tactic(auto, using(crate::proofs::Lookups::found), unfolding(crate::specs::ClockTables::tick_on_of))]
+    fn set_ticking(&mut self, id: ClockId, ticking: bool) -> Result<(), Refusal>
+        ensures { done result self.new ≡ tick_on_of ticking self.old id }
+    {
+        let i = find(&self.keys, id.slot, id.generation)?;
+        self.clocks[i].set_ticking(ticking);
+        Ok(())
+    }
+
+    pub fn start(&mut self, id: ClockId) -> Result<(), Refusal>
+        ensures { done result self.new ≡ tick_on_of true self.old id }
+    {
+        self.set_ticking(id, true)
+    }
+
+    pub fn stop(&mut self, id: ClockId) -> Result<(), Refusal>
+        ensures { done result self.new ≡ tick_on_of false self.old id }
+    {
+        self.set_ticking(id, false)
+    }
+
+    #[tactic(auto, using(crate::proofs::Lookups::found), unfolding(crate::specs::ClockTables::reset_clock_of))]
+    pub fn reset(&mut self, id: ClockId) -> Result<(), Refusal>
+        ensures { done result self.new ≡ reset_clock_of self.old id }
+    {
+        let i = find(&self.keys, id.slot, id.generation)?;
+        self.clocks[i].reset();
+        Ok(())
+    }
+
+    #[tactic(auto, using(crate::proofs::Lookups::found), unfolding(crate::specs::ClockTables::set_speed_of))]
+    pub fn set_speed(
+        &mut self,
+        id: ClockId,
+        target: Value<ClockSpeed>,
+        tween: Tween,
+    ) -> Result<(), Refusal>
+        ensures { done result self.new ≡ set_speed_of self.old id target tween }
+    {
+        let i = find(&self.keys, id.slot, id.generation)?;
+        self.clocks[i].speed.try_set(target, tween)
+    }
+
+    #[tactic(auto, using(crate::proofs::Lookups::found), unfolding(crate::specs::ClockTables::clock_time_of))]
+    pub fn time(&self, id: ClockId) -> Result<ClockTime, Refusal>
+        ensures { told result ≡ clock_time_of self.now id }
+    {
+        let i = find(&self.keys, id.slot, id.generation)?;
+        Ok(time_of(id, &self.clocks[i]))
+    }
+
+    #[tactic(auto, using(crate::proofs::Lookups::found), unfolding(crate::specs::ClockTables::clock_ticking_of))]
+    pub fn ticking(&self, id: ClockId) -> Result<bool, Refusal>
+        ensures { told result ≡ clock_ticking_of self.now id }
+    {
+        let i = find(&self.keys, id.slot, id.generation)?;
+        Ok(self.clocks[i].ticking)
+    }
+
+    #[tactic(auto, using(crate::proofs::Lookups::found), unfolding(crate::specs::ClockTables::clock_speed_of))]
+    pub fn speed(&self, id: ClockId) -> Result<ClockSpeed, Refusal>
+        ensures { told result ≡ clock_speed_of self.now id }
+    {
+        let i = find(&self.keys, id.slot, id.generation)?;
+        Ok(self.clocks[i].speed.raw)
     }
 }

@@ -1,38 +1,31 @@
--- Any two outcomes that a statement allows coincide, for each public function of the crate: `One` of the crate
--- `doubles` says it of the very clause that the check reads off the source. A clause says what the result tells, and no
--- two results tell the same. RULES, one-outcome. Assumes nothing.
+-- Any two outcomes that a statement allows coincide, for each public function of the crate: `Same` of the crate
+-- `doubles` says it of the very clause that the check reads off the source, the result and what the table is at exit. A
+-- clause says what the result tells, and no two results tell the same. RULES, one-outcome. Assumes nothing.
 use mathlib.Core.Path.{◌≡◌, refl, sym, ap, ◌∙◌}
-use Rattle.doubles.proofs.Outcomes.{One}
-use Rattle.judge.proofs.Outcomes.{told}
-use Rattle.clock_table.specs.declared.Clocks.{Clocks}
-use Rattle.modulator_table.specs.declared.Modulators.{Modulators}
-use Rattle.judge.specs.Answer.{Answer, accepted, refused}
-use Rattle.commands.specs.Answers.{Given, done, named, time, flag, speed, value, of_clock, of_modulator, told_answer, Left}
-use Rattle.commands.specs.ClockCommands as clocks
-use Rattle.commands.specs.ModulatorCommands as modulators
+use Rattle.std.specs.Prelude.{Result, Ok, Err}
+use Rattle.doubles.proofs.Outcomes.{Same, equal}
+use Rattle.judge.specs.Answer.{number_of_refusal}
+use Rattle.judge.specs.declared.Refusal.{Refusal}
+use Rattle.judge.proofs.Outcomes.{same_refusal}
+use Rattle.commands.specs.Answers.{Given, done, named, time, flag, speed, value, of_clock, of_modulator, given, told_answer, Left, left}
 use Rattle.commands.specs.declared.CallAnswer.{CallAnswer}
 use Rattle.commands.specs.declared.CallAnswer.TheVariants as answer
-use Rattle.commands.specs.declared.clock_command.ClockRan.{ClockRan}
-use Rattle.commands.specs.declared.modulator_command.ModulatorRan.{ModulatorRan}
-use Rattle.commands.proofs.by_number.Reads as by_number
-use Rattle.commands.proofs.by_number.Kinds as by-number-kinds
 use Rattle.commands.proofs.clock_command.run_clock.Reads as run-clock
 use Rattle.commands.proofs.clock_command.run_clock.Kinds as run-clock-kinds
 use Rattle.commands.proofs.modulator_command.run_modulator.Reads as run-modulator
 use Rattle.commands.proofs.modulator_command.run_modulator.Kinds as run-modulator-kinds
 
--- the answer is told whole: it can be read back
-back : Answer Given → CallAnswer
-back (accepted done) = answer.Done
-back (accepted (named of_clock i g)) = answer.Clock (record { slot = i; generation = g })
-back (accepted (named of_modulator i g)) = answer.Modulator (record { slot = i; generation = g })
-back (accepted (time t)) = answer.Time t
-back (accepted (flag b)) = answer.Flag b
-back (accepted (speed s)) = answer.Speed s
-back (accepted (value x)) = answer.Value x
-back (refused n) = answer.Refused n
+-- what is given is told whole: it can be read back
+back : Given → CallAnswer
+back done = answer.Done
+back (named of_clock i g) = answer.Clock (record { slot = i; generation = g })
+back (named of_modulator i g) = answer.Modulator (record { slot = i; generation = g })
+back (time t) = answer.Time t
+back (flag b) = answer.Flag b
+back (speed s) = answer.Speed s
+back (value x) = answer.Value x
 
-read_back : (x : CallAnswer) → back (told_answer x) ≡ x
+read_back : (x : CallAnswer) → back (given x) ≡ x
 unfolding back
 read_back answer.Done = refl
 read_back (answer.Clock id) = refl
@@ -41,33 +34,26 @@ read_back (answer.Time t) = refl
 read_back (answer.Flag b) = refl
 read_back (answer.Speed s) = refl
 read_back (answer.Value x) = refl
-read_back (answer.Refused n) = refl
 
 -- two answers that tell the same are one
-pub same_answer : (x y : CallAnswer) → told_answer x ≡ told_answer y → x ≡ y
-same_answer x y e = sym (read_back x) ∙ ap back e ∙ read_back y
+pub same_answer : (x y : Result CallAnswer Refusal) → told_answer x ≡ told_answer y → x ≡ y
+same_answer (Ok i) (Ok j) e =
+    let g : given i ≡ given j = cc in
+    ap Ok (sym (read_back i) ∙ ap back g ∙ read_back j)
+same_answer (Ok i) (Err s) e = cc
+same_answer (Err r) (Ok j) e = cc
+same_answer (Err r) (Err s) e =
+    let n : number_of_refusal r ≡ number_of_refusal s = cc in
+    ap Err (same_refusal r s n)
 
-same_clocks : (x y : ClockRan) → clocks.told_ran x ≡ clocks.told_ran y → x ≡ y
-same_clocks x y e =
-    both x.answer y.answer x.table y.table
-    (same_answer x.answer y.answer (ap (λ (r : Left Clocks). r.answer) e)) (ap (λ (r : Left Clocks). r.table) e)
-  where
-    both : (m n : CallAnswer) (t u : Clocks) → m ≡ n → t ≡ u → ◌≡◌ {A = ClockRan} (record { answer = m; table = t }) (record { answer = n; table = u })
-    both m n t u a b = rw (a, b)
+-- two calls that tell the same are one, and leave the same table
+same_left : {T : Type 0} {v : Left T} (x y : Result CallAnswer Refusal) (t u : T) → left x t ≡ v → left y u ≡ v → (x ≡ y) × (t ≡ u)
+same_left {T} x y t u p q =
+    let e : left x t ≡ left y u = equal p q in
+    (same_answer x y (ap (λ (l : Left T). l.answer) e), ap (λ (l : Left T). l.table) e)
 
-same_modulators : (x y : ModulatorRan) → modulators.told_ran x ≡ modulators.told_ran y → x ≡ y
-same_modulators x y e =
-    both x.answer y.answer x.table y.table
-    (same_answer x.answer y.answer (ap (λ (r : Left Modulators). r.answer) e)) (ap (λ (r : Left Modulators). r.table) e)
-  where
-    both : (m n : CallAnswer) (t u : Modulators) → m ≡ n → t ≡ u → ◌≡◌ {A = ModulatorRan} (record { answer = m; table = t }) (record { answer = n; table = u })
-    both m n t u a b = rw (a, b)
+pub one_run_clock : Same 1 run-clock-kinds.ps run-clock-kinds.r run-clock.Post (λ κs s. s.0.now)
+one_run_clock κs a x y s t = same_left x y s.0.now t.0.now
 
-pub one_by_number : One 0 by-number-kinds.ps by-number-kinds.r by_number.Post
-one_by_number κs a x y s t = told same_answer x y
-
-pub one_run_clock : One 0 run-clock-kinds.ps run-clock-kinds.r run-clock.Post
-one_run_clock κs a x y s t = told same_clocks x y
-
-pub one_run_modulator : One 0 run-modulator-kinds.ps run-modulator-kinds.r run-modulator.Post
-one_run_modulator κs a x y s t = told same_modulators x y
+pub one_run_modulator : Same 1 run-modulator-kinds.ps run-modulator-kinds.r run-modulator.Post (λ κs s. s.0.now)
+one_run_modulator κs a x y s t = same_left x y s.0.now t.0.now

@@ -1,7 +1,8 @@
 -- Document 01, "Refusal numbers": what a call on the station answers. Assumes nothing.
-use Rattle.std.specs.Prelude.{ℕ, Bool, Float}
-use Rattle.judge.specs.Answer.{Answer, accepted, refused}
+use Rattle.std.specs.Prelude.{ℕ, Bool, Result, Float}
+use Rattle.judge.specs.Answer.{Answer, accepted, refused, on_accepted, told}
 use Rattle.judge.specs.Judge.{decided}
+use Rattle.judge.specs.declared.Refusal.{Refusal}
 use Rattle.times.specs.declared.time.ClockTime.{ClockTime}
 use Rattle.values.specs.declared.clock_speed.ClockSpeed.{ClockSpeed}
 use Rattle.commands.specs.declared.CallAnswer.{CallAnswer}
@@ -21,15 +22,17 @@ pub data Given : Type 0 where
   speed : ClockSpeed → Given
   value : Float → Given
 
-abbrev pub told_answer : CallAnswer → Answer Given
-told_answer answer.Done = accepted done
-told_answer (answer.Clock id) = accepted (named of_clock id.slot id.generation)
-told_answer (answer.Modulator id) = accepted (named of_modulator id.slot id.generation)
-told_answer (answer.Time t) = accepted (time t)
-told_answer (answer.Flag b) = accepted (flag b)
-told_answer (answer.Speed s) = accepted (speed s)
-told_answer (answer.Value x) = accepted (value x)
-told_answer (answer.Refused n) = refused n
+abbrev pub given : CallAnswer → Given
+given answer.Done = done
+given (answer.Clock id) = named of_clock id.slot id.generation
+given (answer.Modulator id) = named of_modulator id.slot id.generation
+given (answer.Time t) = time t
+given (answer.Flag b) = flag b
+given (answer.Speed s) = speed s
+given (answer.Value x) = value x
+
+abbrev pub told_answer : Result CallAnswer Refusal → Answer Given
+told_answer r = on_accepted given (told r)
 
 -- 0 is OK: RULES, ok
 abbrev pub by_number : ℕ → Answer Given
@@ -39,3 +42,6 @@ by_number n = decided n (accepted done) refused
 pub record Left (T : Type 0) : Type 0 where
   pub answer : Answer Given
   pub table : T
+
+abbrev pub left : {T : Type 0} → Result CallAnswer Refusal → T → Left T
+left r t = record { answer = told_answer r; table = t }

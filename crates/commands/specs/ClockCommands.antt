@@ -4,16 +4,11 @@ use Rattle.std.specs.Prelude.{true, false}
 use Rattle.judge.specs.Answer.{Answer, on_accepted}
 use Rattle.ids.specs.Tables.{Added}
 use Rattle.times.specs.declared.time.ClockId.{ClockId}
-use Rattle.clock_table.specs.ClockTables.{add_clock_of, remove_of, tick_on_of, reset_clock_of, set_speed_of, clock_time_of, clock_ticking_of, clock_speed_of}
+use Rattle.clock_table.specs.ClockTables.{add_clock_of, remove_of, tick_on_of, reset_clock_of, set_speed_of, clock_time_of, clock_ticking_of, clock_speed_of, ClockDone}
 use Rattle.clock_table.specs.declared.Clocks.{Clocks}
-use Rattle.clock_table.specs.declared.ClockDone.{ClockDone}
-use Rattle.commands.specs.Answers.{of_clock, Given, named, time, flag, speed, told_answer, by_number, Left}
+use Rattle.commands.specs.Answers.{of_clock, Given, named, time, flag, speed, by_number, Left}
 use Rattle.commands.specs.declared.clock_command.ClockCommand.{ClockCommand}
 use Rattle.commands.specs.declared.clock_command.ClockCommand.TheVariants as command
-use Rattle.commands.specs.declared.clock_command.ClockRan.{ClockRan}
-
-abbrev pub told_ran : ClockRan → Left Clocks
-told_ran r = record { answer = told_answer r.answer; table = r.table }
 
 abbrev pub added_as : Added Clocks ClockId → Left Clocks
 added_as r = record { answer = on_accepted (λ id. named of_clock id.slot id.generation) r.answer; table = r.table }

@@ -3,16 +3,11 @@
 use Rattle.judge.specs.Answer.{on_accepted}
 use Rattle.ids.specs.Tables.{Added}
 use Rattle.values.specs.declared.value.ModulatorId.{ModulatorId}
-use Rattle.modulator_table.specs.ModulatorTables.{add_tweener_of, add_lfo_of, remove_of, set_tweener_of, set_parameter_of, set_waveform_of, set_phase_of, modulator_value_of}
+use Rattle.modulator_table.specs.ModulatorTables.{add_tweener_of, add_lfo_of, remove_of, set_tweener_of, set_parameter_of, set_waveform_of, set_phase_of, modulator_value_of, ModulatorDone}
 use Rattle.modulator_table.specs.declared.Modulators.{Modulators}
-use Rattle.modulator_table.specs.declared.ModulatorDone.{ModulatorDone}
-use Rattle.commands.specs.Answers.{of_modulator, named, value, told_answer, by_number, Left}
+use Rattle.commands.specs.Answers.{of_modulator, named, value, by_number, Left}
 use Rattle.commands.specs.declared.modulator_command.ModulatorCommand.{ModulatorCommand}
 use Rattle.commands.specs.declared.modulator_command.ModulatorCommand.TheVariants as command
-use Rattle.commands.specs.declared.modulator_command.ModulatorRan.{ModulatorRan}
-
-abbrev pub told_ran : ModulatorRan → Left Modulators
-told_ran r = record { answer = told_answer r.answer; table = r.table }
 
 abbrev pub added_as : Added Modulators ModulatorId → Left Modulators
 added_as r = record { answer = on_accepted (λ id. named of_modulator id.slot id.generation) r.answer; table = r.table }

@@ -1,19 +1,20 @@
 // What the cases run on: 16 clocks and 16 modulators, 8 tweeners under way and 8 LFOs. oracle/src/speed.rs makes the
 // same of the original's types, so that both give the same answers.
-use clock::{Clock, new_clock, with_ticking};
-use clock_table::{Clocks, set_clock_speed};
+use clock::Clock;
+use clock_table::Clocks;
 use ids::Key;
 use modulator::lfo::Lfo;
-use modulator::tweener::{new_tweener, tweener_to};
+use modulator::tweener::Tweener;
 use modulator_table::{Modulator, Modulators, Slot};
-use parameter::float::{FloatParameter, new_float, try_set_float};
+use parameter::Parameter;
 use times::start_time::StartTime;
 use times::time::{ClockId, from_ticks_u64};
 use times::tween::{Easing, Tween};
 use values::clock_speed::ClockSpeed;
-use values::value::{FloatMapping, FloatValue, ModulatorId, SpeedMapping, SpeedValue};
+use values::value::{Mapping, ModulatorId, Value};
 use waveform::Waveform;
 
+// An id for each kind, of its own type: one function would be no plainer than the two.
 fn clock_id(slot: u32) -> ClockId {
     ClockId {
         slot,
@@ -79,11 +80,11 @@ fn fixed_speed(i: u32) -> ClockSpeed {
 }
 
 // Slots 8 to 11 are linked to tweeners, the others fixed.
-fn speed(i: u32) -> SpeedValue {
+fn speed(i: u32) -> Value<ClockSpeed> {
     if i & 12 == 8 {
-        return SpeedValue::FromModulator(
+        return Value::FromModulator(
             modulator_id(i & 3),
-            SpeedMapping {
+            Mapping {
                 in_lo: 0.0,
                 in_hi: 8.0,
                 out_lo: ClockSpeed::TicksPerSecond(1.0),
@@ -92,67 +93,67 @@ fn speed(i: u32) -> SpeedValue {
             },
         );
     }
-    SpeedValue::Fixed(fixed_speed(i))
+    Value::Fixed(fixed_speed(i))
 }
 
 // The speed that a clock goes to.
-fn new_speed(i: u32) -> SpeedValue {
-    SpeedValue::Fixed(ClockSpeed::TicksPerMinute(size(i) * 120.0))
+fn new_speed(i: u32) -> Value<ClockSpeed> {
+    Value::Fixed(ClockSpeed::TicksPerMinute(size(i) * 120.0))
 }
 
-// Sixteen living clocks, all alike.
-fn alike(c: Clock) -> Clocks {
-    let k = Key {
-        used: true,
-        generation: 1,
-    };
+// Sixteen living clocks.
+fn living(clocks: [Clock; 16]) -> Clocks {
     Clocks {
-        keys: [k; 16],
-        clocks: [c; 16],
+        keys: [Key::taken(1); 16],
+        clocks,
     }
 }
 
 // A clock's speed is set to a new one.
-pub fn retuned(t: Clocks, i: u32) -> Clocks {
-    let done = set_clock_speed(t, clock_id(i), new_speed(i), tween(i));
-    done.table
+pub fn retune(t: &mut Clocks, i: u32) {
+    let _ = t.set_speed(clock_id(i), new_speed(i), tween(i));
+}
+
+// A clock that ticks.
+fn ticking(speed: Value<ClockSpeed>) -> Clock {
+    let mut c = Clock::new(speed);
+    c.set_ticking(true);
+    c
 }
 
 // Sixteen clocks that tick: 8 with a fixed speed, 4 linked, 4 with a speed under way to another.
 pub fn clocks() -> Clocks {
-    let mut table = alike(new_clock(speed(0)));
-    let mut i: usize = 0;
-    while i < 16 {
-        table.clocks[i] = with_ticking(new_clock(speed(i as u32)), true);
-        if i > 11 {
-            table = retuned(table, i as u32);
-        }
-        i += 1;
+    let mut table = living([ticking(speed(0)); 16]);
+    for i in 1..16 {
+        table.clocks[i as usize] = ticking(speed(i));
+    }
+    for i in 12..16 {
+        retune(&mut table, i);
     }
     table
 }
 
 // Sixteen clocks of which one ticks, as fast as a frame of a second allows.
 pub fn one_fast() -> Clocks {
-    let c = new_clock(SpeedValue::Fixed(ClockSpeed::TicksPerSecond(65536.0)));
-    let mut table = alike(c);
-    table.clocks[5] = with_ticking(c, true);
+    let fast = Value::Fixed(ClockSpeed::TicksPerSecond(65536.0));
+    let mut table = living([Clock::new(fast); 16]);
+    table.clocks[5] = ticking(fast);
     table
 }
 
 // A value that is fixed, or linked to a modulator.
-fn value(i: u32, linked: bool, slot: u32, fixed: f64) -> FloatValue {
+fn value(i: u32, linked: bool, slot: u32, fixed: f64) -> Value<f64> {
     if linked {
-        let mapping = FloatMapping {
+        let mapping = Mapping {
             in_lo: 0.0,
             in_hi: 8.0,
             out_lo: 0.5,
             out_hi: size(i),
             easing: easing(i),
         };
-        return FloatValue::FromModulator(modulator_id(slot), mapping);
+        return Value::FromModulator(modulator_id(slot), mapping);
     }
-    FloatValue::Fixed(fixed)
+    Value::Fixed(fixed)
 }
 
 // A waveform for a slot.
@@ -166,13 +167,10 @@ fn waveform(i: u32) -> Waveform {
 }
 
 // A parameter on its way from 0.5 to 1,000, begun by the time of a clock.
-pub fn parameter() -> FloatParameter {
-    let set = try_set_float(
-        new_float(FloatValue::Fixed(0.5), 0.0),
-        FloatValue::Fixed(1000.0),
-        tween(3),
-    );
-    set.parameter
+pub fn parameter() -> Parameter<f64> {
+    let mut p = Parameter::new(Value::Fixed(0.5), 0.0);
+    let _ = p.try_set(Value::Fixed(1000.0), tween(3));
+    p
 }
 
 // An LFO with its amplitude under way. Every other frequency is linked to a tweener, and every fourth offset to an
@@ -180,9 +178,9 @@ pub fn parameter() -> FloatParameter {
 fn lfo(i: u32) -> Lfo {
     Lfo {
         waveform: waveform(i),
-        frequency: new_float(value(i, i & 1 == 1, i & 7, size(i)), 2.0),
+        frequency: Parameter::new(value(i, i & 1 == 1, i & 7, size(i)), 2.0),
         amplitude: parameter(),
-        offset: new_float(value(i, i & 3 == 3, 8, 0.25), 0.0),
+        offset: Parameter::new(value(i, i & 3 == 3, 8, 0.25), 0.0),
         phase: 0.0,
         value: 0.0,
     }
@@ -191,29 +189,23 @@ fn lfo(i: u32) -> Lfo {
 // The modulator of a slot: of 16, 8 are tweeners under way and 8 are LFOs.
 fn modulator(i: u32) -> Modulator {
     if i < 8 {
-        return Modulator::OfTweener(tweener_to(new_tweener(size(i)), size(i ^ 3), tween(i)));
+        let mut t = Tweener::new(size(i));
+        t.set(size(i ^ 3), tween(i));
+        return Modulator::OfTweener(t);
     }
     Modulator::OfLfo(lfo(i))
 }
 
 pub fn modulators() -> Modulators {
-    let k = Key {
-        used: true,
-        generation: 1,
-    };
     let slot = Slot {
         modulator: modulator(0),
     };
-    let mut table = Modulators {
-        keys: [k; 16],
-        slots: [slot; 16],
-    };
-    let mut i: usize = 0;
-    while i < 16 {
-        table.slots[i] = Slot {
-            modulator: modulator(i as u32),
-        };
-        i += 1;
+    let mut slots = [slot; 16];
+    for i in 1..16 {
+        slots[i as usize].modulator = modulator(i);
     }
-    table
+    Modulators {
+        keys: [Key::taken(1); 16],
+        slots,
+    }
 }

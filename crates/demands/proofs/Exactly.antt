@@ -2,43 +2,41 @@
 -- in the order whose condition holds; and the same read both ways. 01, "Refusal numbers". RULES, exact-refusals.
 -- Assumes nothing.
 use Prim.Native.Nat.{ℕ}
-use mathlib.Core.Path.{◌≡◌, refl, sym, ap, ◌∙◌}
+use mathlib.Core.Path.{◌≡◌, refl, sym, ◌∙◌}
 use mathlib.Core.Bool.{Bool, true, false, cond, false≢true}
 use mathlib.Core.Logic.{◌↔◌}
 use mathlib.Core.List.{List}
 use lib.Dec.{eqb}
-use Rattle.ids.specs.Tables.{read_found}
 use Rattle.judge.specs.Answer.{Answer, accepted, refused, number_told}
-use Rattle.judge.specs.Judge.{Conditions, of_arguments, both_faults, dt_faults, float_faults, number_of, first_fault, decided, judged}
+use Rattle.judge.specs.Judge.{Conditions, of_arguments, both_faults, dt_faults, number_of, first_fault, decided, judged}
 use Rattle.judge.specs.Numbers.{«BUFFER»}
-use Rattle.values.specs.Speeds.{speed_faults}
 use Rattle.times.specs.Times.{clock_time_faults}
-use Rattle.times.specs.Starts.{start_faults, try_update_of}
+use Rattle.times.specs.Starts.{start_faults}
+use Rattle.times.specs.Starts as starts
 use Rattle.judge.specs.declared.Faults.{Faults}
 use Rattle.times.specs.declared.time.ClockId.{ClockId}
-use Rattle.values.specs.Values.{float_value_faults, speed_value_faults}
-use Rattle.parameter.specs.FloatParameters as floats
-use Rattle.parameter.specs.SpeedParameters as speeds
-use Rattle.parameter.specs.declared.float.FloatAdvanced.{FloatAdvanced}
-use Rattle.parameter.specs.declared.float.FloatSet.{FloatSet}
-use Rattle.parameter.specs.declared.speed.SpeedAdvanced.{SpeedAdvanced}
-use Rattle.parameter.specs.declared.speed.SpeedSet.{SpeedSet}
-use Rattle.info.specs.Infos.{try_when_to_start_of, try_raw_float_in, try_raw_speed_in}
-use Rattle.info.specs.ParametersIn.{try_update_float_in, try_update_speed_in}
-use Rattle.clock_table.specs.ClockTables.{clock_table}
+use Rattle.values.specs.Speeds.{speed_tweens}
+use Rattle.values.specs.Tweenables.{Tweens, float_tweens}
+use Rattle.values.specs.Values.{value_faults}
+use Rattle.parameter.specs.Parameters.{Set, Advanced, set_faults, try_new_of, try_set_of, try_update_of}
+use Rattle.parameter.specs.declared.Parameter.{Parameter}
+use Rattle.info.specs.Infos.{try_when_to_start_of, try_raw_in}
+use Rattle.info.specs.ParametersIn.{try_update_in}
+use Rattle.info.specs.declared.info.Info.{Info}
 use Rattle.station.specs.Frames.{frame_of}
+use Rattle.station.specs.Stations.{info_in}
 use Rattle.station.specs.declared.Station.{Station}
 use Rattle.report.specs.Reports.{unchanged, at_start, too_short, report_text, into_buffer, report_of}
 use Rattle.laws.specs.Calls.{Call, clock, modulator, frame, refusal, done, call_number}
 use Rattle.laws.specs.SoundStation.{All}
-use Rattle.laws.proofs.lemmas.Entries.{names_read}
-use Rattle.demands.specs.Entries.{Lent, Tables, Entry, on_station, set_float, set_speed, update_float, update_speed, advance_float, advance_speed, report, when, read_float, read_speed, start_in, make_float, make_speed, shift, number_given}
-use Rattle.demands.specs.Conditions.{too_far_in, ticks_full_in, in_frame, of_call, of_report, conditions_of}
+use Rattle.demands.specs.Entries.{Lent, Tables, OnKind, set, update, advance, read, make, Entry, on_station, on_float, on_speed, report, when, start_in, shift, number_on, number_given}
+use Rattle.demands.specs.Conditions.{too_far_in, ticks_full_in, in_frame, of_call, of_report, of_parameter, conditions_of}
 use Rattle.demands.specs.Order.{order, holds, first_in, among, Decides}
 use Rattle.demands.proofs.lemmas.Asked.{first_exactly, first_none, judged_number, id_given, turn_given}
 use Rattle.demands.proofs.lemmas.Lowest.{frame_number}
-use Rattle.demands.proofs.lemmas.ByClock.{clock_case, clock_number}
+use Rattle.demands.proofs.lemmas.ByClock.{clock_number}
 use Rattle.demands.proofs.lemmas.ByModulator.{modulator_number}
+use Rattle.demands.proofs.lemmas.Lookups.{entry_number}
 use Rattle.demands.proofs.lemmas.ByTime.{shift_number}
 
 -- ---- the calls on the station
@@ -64,16 +62,21 @@ judged_given f x = arguments_number number_told f (accepted x) (refused (first_f
 report_number : (st : Station) → Tables st → (id : ClockId) (out : List ℕ) → number_told (report_of st.clocks id out).answer ≡ first_in order (holds (of_report st id out))
 unfolding report_of first_in number_of
 report_number st t id out =
-    clock_case st t.clocks id
-    (λ e m. ap told (ap (λ (w : Answer ℕ). read_found clock_table st.clocks w (report_text id)) e) ∙ sym (m (cond (too_short out) «BUFFER» 0)))
-    (λ c n m. ap told (names_read st.clocks id c n (report_text id)) ∙ go (report_text id c) (too_short out) ∙ sym (m (cond (too_short out) «BUFFER» 0)))
+    entry_number st.clocks.keys st.clocks.clocks t.clocks id.slot id.generation (λ (a : Answer (List ℕ)). number_told (into_buffer out a).answer) refused (λ m. refl)
+    (λ i c. accepted (report_text id c)) (cond (too_short out) «BUFFER» 0) (λ l c k. go (report_text id c) (too_short out))
   where
-    told : Answer (List ℕ) → ℕ
-    told a = number_told (into_buffer out a).answer
-
     go : (text : List ℕ) (b : Bool) → number_told (decided (cond b «BUFFER» 0) (at_start text out) (λ n. unchanged n out)).answer ≡ cond b «BUFFER» 0
     go text true = refl
     go text false = refl
+
+-- a call on a parameter of any kind, or on a value of it
+kind_number : {T : Type 0} (k : Tweens T) (info : Info) (p : Parameter T) (c : OnKind T) → number_on k info p c ≡ first_in order (holds (of_parameter k p c))
+unfolding try_set_of try_update_in try_update_of try_raw_in try_new_of
+kind_number {T} k info p (set v w) = arguments_number (λ (r : Set T). r.refused) (set_faults k p v w) _ _ refl refl
+kind_number {T} k info p (update dt) = arguments_number (λ (r : Advanced T). r.refused) (dt_faults dt) _ _ refl refl
+kind_number {T} k info p (advance dt s) = arguments_number (λ (r : Advanced T). r.refused) (dt_faults dt) _ _ refl refl
+kind_number k info p (read v) = judged_given (value_faults k v) _
+kind_number k info p (make v d) = judged_given (both_faults (value_faults k v) (k.wrong d)) _
 
 -- ---- every call
 
@@ -87,21 +90,13 @@ report_number st t id out =
 -- generation of its slot; and in a frame what a clock sees in its turn, its speed, its advance, its sum and the whole
 -- ticks of it.
 pub number_given_lem : (l : Lent) → Tables l.station → (e : Entry) → number_given l e ≡ first_in order (holds (conditions_of l e))
-unfolding floats.try_set_of speeds.try_set_of try_update_float_in try_update_speed_in floats.try_update_of speeds.try_update_of try_when_to_start_of try_raw_float_in try_raw_speed_in try_update_of floats.try_new_of speeds.try_new_of
+unfolding try_when_to_start_of starts.try_update_of
 number_given_lem l t (on_station c) = call_number_lem l.station t c
-number_given_lem l t (set_float v w) = arguments_number (λ (r : FloatSet). r.refused) (floats.set_faults l.float v w) _ _ refl refl
-number_given_lem l t (set_speed v w) = arguments_number (λ (r : SpeedSet). r.refused) (speeds.set_faults l.speed v w) _ _ refl refl
-number_given_lem l t (update_float dt) = arguments_number (λ (r : FloatAdvanced). r.refused) (dt_faults dt) _ _ refl refl
-number_given_lem l t (update_speed dt) = arguments_number (λ (r : SpeedAdvanced). r.refused) (dt_faults dt) _ _ refl refl
-number_given_lem l t (advance_float dt w i) = arguments_number (λ (r : FloatAdvanced). r.refused) (dt_faults dt) _ _ refl refl
-number_given_lem l t (advance_speed dt w i) = arguments_number (λ (r : SpeedAdvanced). r.refused) (dt_faults dt) _ _ refl refl
+number_given_lem l t (on_float c) = kind_number float_tweens (info_in l.station) l.float c
+number_given_lem l t (on_speed c) = kind_number speed_tweens (info_in l.station) l.speed c
 number_given_lem l t (report id) = report_number l.station t id l.buffer
 number_given_lem l t (when u) = judged_given (clock_time_faults u) _
-number_given_lem l t (read_float v) = judged_given (float_value_faults v) _
-number_given_lem l t (read_speed v) = judged_given (speed_value_faults v) _
 number_given_lem l t (start_in s dt) = judged_given (both_faults (dt_faults dt) (start_faults s)) _
-number_given_lem l t (make_float v d) = judged_given (both_faults (float_value_faults v) (float_faults d)) _
-number_given_lem l t (make_speed v d) = judged_given (both_faults (speed_value_faults v) (speed_faults d)) _
 number_given_lem l t (shift u s) = shift_number u s
 
 -- ---- the order, read both ways

@@ -4,22 +4,22 @@ use Prim.Native.Nat.{ℕ, ◌<◌}
 use native.Mathlib.Decide.{ℕ_discrete}
 use native.Mathlib.Omega.{arith}
 use mathlib.Core.Path.{◌≡◌, refl, ap, ◌∙◌}
-use mathlib.Core.Bool.{Bool, true, false, cond}
+use mathlib.Core.Bool.{false}
 use mathlib.Core.List.{List, [], ◌∷◌}
 use lib.ListN.{length}
-use lib.Dec.{eqb}
 use lib.Ieee.{Float}
-use Rattle.ids.specs.Keys.{Place, place, free_of}
+use Rattle.ids.specs.Keys.{room_at, free_of}
 use Rattle.ids.proofs.Names.{add_lives}
 use Rattle.ids.proofs.Places.{read_set_same, room_inside}
-use Rattle.judge.specs.Answer.{Answer, accepted, refused, is_refused}
-use Rattle.judge.specs.Judge.{of_add, number_of}
+use Rattle.judge.specs.Answer.{accepted, refused}
 use Rattle.judge.specs.Numbers.{NEVER_ISSUED}
 use Rattle.times.specs.declared.time.ClockId.{ClockId}
-use Rattle.values.specs.Values.{speed_value_faults}
-use Rattle.values.specs.declared.value.SpeedValue.{SpeedValue}
+use Rattle.values.specs.Speeds.{speed_tweens}
+use Rattle.values.specs.Values.{value_faults}
+use Rattle.values.specs.declared.clock_speed.ClockSpeed.{ClockSpeed}
+use Rattle.values.specs.declared.value.Value.{Value}
 use Rattle.clock.specs.OneClock.{new_clock}
-use Rattle.ids.specs.Tables.{refused_add, placed_in}
+use Rattle.ids.specs.Tables.{placed_in}
 use Rattle.clock_table.specs.ClockTables.{clock_table, add_clock_of}
 use Rattle.clock.specs.declared.Clock.{Clock}
 use Rattle.clock.specs.declared.ClockState.TheVariants.{NotStarted}
@@ -32,10 +32,11 @@ use Rattle.station.specs.Stations.{fresh_station}
 use Rattle.station.specs.declared.Station.{Station}
 use Rattle.laws.specs.Calls.{Call, clock, modulator, frame, after, after_all, of_clock, named, told}
 use Rattle.laws.specs.SoundStation.{All}
+use Rattle.laws.proofs.lemmas.Cases.{added_lem}
 use Rattle.laws.proofs.lemmas.Entries.{Names, names_read}
 use Rattle.laws.proofs.lemmas.OneClock.{Makes, leaves, starts, stops, resets, speeds, command_makes}
 use Rattle.laws.proofs.lemmas.OneTurn.{frame_turns, frame_refused}
-use Rattle.laws.proofs.lemmas.Sizes.{Sixteen, reached_sixteen}
+use Rattle.laws.proofs.lemmas.Sizes.{Full, Sixteen, reached_sixteen}
 use Rattle.demands.specs.Served.{Fresh}
 use Rattle.demands.proofs.lemmas.Standing.{rests}
 
@@ -52,35 +53,27 @@ new_fresh st id n = record { slot = n.slot; clock = n.clock; lives = names_read 
 
 -- ---- the add
 
-module _ (t : Clocks) (s : Sixteen t) (v : SpeedValue) (id : ClockId) where
-  put : (w : Answer Place) → free_of 0 t.keys ≡ w → (added_as (placed_in clock_table t (new_clock v) w)).answer ≡ named of_clock id.slot id.generation → New (placed_in clock_table t (new_clock v) w).table id
-  put (refused m) e a = let z : ◌≡◌ {A = ℕ} 0 1 = cc in absurd (omega arith)
-  put (accepted (place i g)) e a =
+module _ (t : Clocks) (s : Full t.keys t.clocks) (v : Value ClockSpeed) (id : ClockId) where
+  placed : (i g : ℕ) → free_of 0 t.keys ≡ room_at i g → named of_clock i g ≡ named of_clock id.slot id.generation → New (placed_in clock_table t (new_clock v) (room_at i g)).table id
+  placed i g e a =
       let p : i ≡ id.slot = cc in
       let q : g ≡ id.generation = cc in
       let l : i < length t.keys = room_inside t.keys i g e in
-      let k : length t.keys ≡ 16 = s.keys in
-      let c : length t.clocks ≡ 16 = s.clocks in
       record {
-        slot = omega arith;
+        slot = omega (arith, s.keys);
         clock = new_clock v;
-        names = rw (← p, ← q) (record { lives = add_lives t.keys i g e; holds = read_set_same (refused NEVER_ISSUED) (λ x. accepted x) t.clocks i (new_clock v) (omega arith) });
+        names = rw (← p, ← q) (record { lives = add_lives t.keys i g e; holds = read_set_same (refused NEVER_ISSUED) (λ x. accepted x) t.clocks i (new_clock v) (omega (arith, s.keys, s.entries)) });
         still = refl;
         unstarted = refl;
       }
 
   added : (added_as (add_clock_of t v)).answer ≡ named of_clock id.slot id.generation → New (add_clock_of t v).table id
   unfolding add_clock_of
-  added = go (eqb n 0)
-    where
-      n : ℕ
-      n = number_of (of_add (speed_value_faults v) (is_refused (free_of 0 t.keys)))
+  added =
+      added_lem clock_table t (value_faults speed_tweens v) (new_clock v) (λ r. (added_as r).answer ≡ named of_clock id.slot id.generation → New r.table id)
+      (λ n z a. absurd (cc)) (λ i g z e. placed i g e)
 
-      go : (b : Bool) → (added_as (cond b (placed_in clock_table t (new_clock v) (free_of 0 t.keys)) (refused_add clock_table t n))).answer ≡ named of_clock id.slot id.generation → New (cond b (placed_in clock_table t (new_clock v) (free_of 0 t.keys)) (refused_add clock_table t n)).table id
-      go true a = put (free_of 0 t.keys) refl a
-      go false a = let z : ◌≡◌ {A = ℕ} 0 1 = cc in absurd (omega arith)
-
-pub add_fresh : (st : Station) → Sixteen st.clocks → (v : SpeedValue) (id : ClockId) → told st (clock (command.Add v)) ≡ named of_clock id.slot id.generation → New (after st (clock (command.Add v))).clocks id
+pub add_fresh : (st : Station) → Sixteen of_clock st → (v : Value ClockSpeed) (id : ClockId) → told st (clock (command.Add v)) ≡ named of_clock id.slot id.generation → New (after st (clock (command.Add v))).clocks id
 unfolding run_clock_of
 add_fresh st s v id a = added st.clocks s v id a
 
@@ -129,7 +122,7 @@ fresh_kept st id (c ∷ cs) n s = fresh_kept (after st c) id cs (call_kept st id
 -- can be asked of it: RULES, run. A clock that was started and then reset is fresh for `served` too, but nothing here
 -- leads there.
 pub reached_fresh :
-    (cs : List Call) (v : SpeedValue) (id : ClockId) (ds : List Call) → told (after_all fresh_station cs) (clock (command.Add v)) ≡ named of_clock id.slot id.generation → All (Spares id) ds
+    (cs : List Call) (v : Value ClockSpeed) (id : ClockId) (ds : List Call) → told (after_all fresh_station cs) (clock (command.Add v)) ≡ named of_clock id.slot id.generation → All (Spares id) ds
     → Fresh (after_all (after (after_all fresh_station cs) (clock (command.Add v))) ds) id
 reached_fresh cs v id ds a s =
-    new_fresh _ id (fresh_kept (after (after_all fresh_station cs) (clock (command.Add v))) id ds (add_fresh (after_all fresh_station cs) (reached_sixteen cs) v id a) s)
+    new_fresh _ id (fresh_kept (after (after_all fresh_station cs) (clock (command.Add v))) id ds (add_fresh (after_all fresh_station cs) (reached_sixteen of_clock cs) v id a) s)

@@ -15,8 +15,10 @@ use Rattle.ids.proofs.Standings as standings
 use Rattle.judge.specs.Judge.{Conditions, no_faults}
 use Rattle.judge.specs.Numbers.{«GONE», NEVER_ISSUED}
 use Rattle.judge.specs.declared.Faults.{Faults}
-use Rattle.times.specs.declared.time.ClockId.{ClockId}
+use Rattle.values.specs.Speeds.{speed_tweens}
+use Rattle.values.specs.Tweenables.{Tweens, float_tweens}
 use Rattle.values.specs.declared.value.ModulatorId.{ModulatorId}
+use Rattle.parameter.specs.declared.Parameter.{Parameter}
 use Rattle.modulator_table.specs.declared.Modulator.{Modulator}
 use Rattle.commands.specs.declared.clock_command.ClockCommand.{ClockCommand}
 use Rattle.commands.specs.declared.clock_command.ClockCommand.TheVariants as clocks
@@ -24,11 +26,11 @@ use Rattle.commands.specs.declared.modulator_command.ModulatorCommand.{Modulator
 use Rattle.commands.specs.declared.modulator_command.ModulatorCommand.TheVariants as modulators
 use Rattle.station.specs.Stations.{fresh_station}
 use Rattle.station.specs.declared.Station.{Station}
-use Rattle.laws.specs.Calls.{Call, clock, modulator, frame, after_all, Kind, of_clock, of_modulator, lives, standing}
+use Rattle.laws.specs.Calls.{Call, clock, modulator, frame, after_all, Kind, of_clock, of_modulator, keys_of, lives, standing}
 use Rattle.laws.proofs.Issued.{issued_gone, gone_issued, never_unissued, unissued_never}
-use Rattle.laws.proofs.lemmas.Sizes.{Sixteen, SixteenSlots, run_sixteen, reached_sixteen, run_slots, reached_slots}
-use Rattle.demands.specs.Conditions.{ungiven, gone_in, never_in, is_tweener, is_lfo, other_kind, by_clock, by_modulator, by_kind, of_clocks, of_modulators, conditions_of}
-use Rattle.demands.specs.Entries.{Lent, Tables, add_ticks, sub_ticks, add_float, sub_float, Entry, on_station, set_float, set_speed, update_float, update_speed, advance_float, advance_speed, report, when, read_float, read_speed, start_in, make_float, make_speed, shift, number_given}
+use Rattle.laws.proofs.lemmas.Sizes.{Sixteen, run_sixteen, reached_sixteen}
+use Rattle.demands.specs.Conditions.{ungiven, gone_in, never_in, is_tweener, is_lfo, other_kind, by_id, by_kind, of_clocks, of_modulators, of_parameter, conditions_of}
+use Rattle.demands.specs.Entries.{Lent, Tables, add_ticks, sub_ticks, add_float, sub_float, OnKind, set, update, advance, read, make, Entry, on_station, on_float, on_speed, report, when, start_in, shift, number_given}
 use Rattle.demands.specs.Log.{Named, no_id, any_of, kind_of, clock_named, modulator_named, named_by, OtherKind, IsGone, IsNever, Over, OursOver, NotOurs}
 use Rattle.demands.specs.Order.{among, before}
 use Rattle.demands.proofs.Exactly.{exactly}
@@ -38,13 +40,13 @@ use Rattle.demands.proofs.lemmas.Lookups.{ungiven_is}
 
 -- of the three, two differ
 living_gone : living ≡ gone → ⊥
-living_gone e = let z : ◌≡◌ {A = ℕ} 0 1 = cc in omega arith
+living_gone e = cc
 
 living_never : living ≡ never_issued → ⊥
-living_never e = let z : ◌≡◌ {A = ℕ} 0 1 = cc in omega arith
+living_never e = cc
 
 gone_never : gone ≡ never_issued → ⊥
-gone_never e = let z : ◌≡◌ {A = ℕ} 0 1 = cc in omega arith
+gone_never e = cc
 
 module _ (ks : List Key) (i g : ℕ) (s : length ks ≤ 16) where
   gone_is : (gone_in ks i g ≡ true) ↔ (standing_of ks i g ≡ gone)
@@ -78,18 +80,16 @@ none_named p q = record {
 }
 
 module _ (st : Station) (t : Tables st) where
-  of_clock_lem : (id : ClockId) (f : Faults) → Tells (by_clock st id f) st (any_of of_clock id.slot id.generation)
-  of_clock_lem id f = record {
-    gone = gone_is st.clocks.keys id.slot id.generation t.clocks.most;
-    never = never_is st.clocks.keys id.slot id.generation t.clocks.most;
-  }
+  most : (k : Kind) → length (keys_of k st) ≤ 16
+  most of_clock = t.clocks.most
+  most of_modulator = t.modulators.most
+
+  of_any : (k : Kind) (i g : ℕ) (f : Faults) → Tells (by_id (keys_of k st) i g f) st (any_of k i g)
+  of_any k i g f = record { gone = gone_is (keys_of k st) i g (most k); never = never_is (keys_of k st) i g (most k) }
 
   module _ (id : ModulatorId) where
     abbrev ks : List Key
     ks = st.modulators.keys
-
-    of_modulator_lem : (f : Faults) → Tells (by_modulator st id f) st (any_of of_modulator id.slot id.generation)
-    of_modulator_lem f = record { gone = gone_is ks id.slot id.generation t.modulators.most; never = never_is ks id.slot id.generation t.modulators.most }
 
     of_kind : (k : Modulator → Bool) (f : Faults) → Tells (by_kind k st id f) st (kind_of k id.slot id.generation)
     of_kind k f = record {
@@ -121,42 +121,41 @@ module _ (st : Station) (t : Tables st) where
 
   clock_tells : (c : ClockCommand) → Tells (of_clocks st c) st (clock_named c)
   clock_tells (clocks.Add v) = none_named refl refl
-  clock_tells (clocks.Remove id) = of_clock_lem id _
-  clock_tells (clocks.Start id) = of_clock_lem id _
-  clock_tells (clocks.Stop id) = of_clock_lem id _
-  clock_tells (clocks.Reset id) = of_clock_lem id _
-  clock_tells (clocks.SetSpeed id v w) = of_clock_lem id _
-  clock_tells (clocks.Time id) = of_clock_lem id _
-  clock_tells (clocks.Ticking id) = of_clock_lem id _
-  clock_tells (clocks.Speed id) = of_clock_lem id _
+  clock_tells (clocks.Remove id) = of_any of_clock id.slot id.generation _
+  clock_tells (clocks.Start id) = of_any of_clock id.slot id.generation _
+  clock_tells (clocks.Stop id) = of_any of_clock id.slot id.generation _
+  clock_tells (clocks.Reset id) = of_any of_clock id.slot id.generation _
+  clock_tells (clocks.SetSpeed id v w) = of_any of_clock id.slot id.generation _
+  clock_tells (clocks.Time id) = of_any of_clock id.slot id.generation _
+  clock_tells (clocks.Ticking id) = of_any of_clock id.slot id.generation _
+  clock_tells (clocks.Speed id) = of_any of_clock id.slot id.generation _
 
   modulator_tells : (c : ModulatorCommand) → Tells (of_modulators st c) st (modulator_named c)
   modulator_tells (modulators.AddTweener x) = none_named refl refl
   modulator_tells (modulators.AddLfo b) = none_named refl refl
-  modulator_tells (modulators.Remove id) = of_modulator_lem id _
+  modulator_tells (modulators.Remove id) = of_any of_modulator id.slot id.generation _
   modulator_tells (modulators.SetTweener id x w) = of_kind id is_tweener _
   modulator_tells (modulators.SetParameter id p v w) = of_kind id is_lfo _
   modulator_tells (modulators.SetWaveform id w) = of_kind id is_lfo _
   modulator_tells (modulators.SetPhase id x) = of_kind id is_lfo _
-  modulator_tells (modulators.Value id) = of_modulator_lem id _
+  modulator_tells (modulators.Value id) = of_any of_modulator id.slot id.generation _
+
+kind_tells : {T : Type 0} (k : Tweens T) (p : Parameter T) (c : OnKind T) {st : Station} → Tells (of_parameter k p c) st no_id
+kind_tells k p (set v w) = none_named refl refl
+kind_tells k p (update dt) = none_named refl refl
+kind_tells k p (advance dt s) = none_named refl refl
+kind_tells k p (read v) = none_named refl refl
+kind_tells k p (make v d) = none_named refl refl
 
 tells : (l : Lent) → Tables l.station → (e : Entry) → Tells (conditions_of l e) l.station (named_by e)
 tells l t (on_station (clock c)) = clock_tells l.station t c
 tells l t (on_station (modulator c)) = modulator_tells l.station t c
 tells l t (on_station (frame dt)) = none_named refl refl
-tells l t (set_float v w) = none_named refl refl
-tells l t (set_speed v w) = none_named refl refl
-tells l t (update_float dt) = none_named refl refl
-tells l t (update_speed dt) = none_named refl refl
-tells l t (advance_float dt w i) = none_named refl refl
-tells l t (advance_speed dt w i) = none_named refl refl
-tells l t (report id) = let c = of_clock_lem l.station t id no_faults in record { gone = c.gone; never = c.never }
+tells l t (on_float c) = kind_tells float_tweens l.float c
+tells l t (on_speed c) = kind_tells speed_tweens l.speed c
+tells l t (report id) = let c = of_any l.station t of_clock id.slot id.generation no_faults in record { gone = c.gone; never = c.never }
 tells l t (when u) = none_named refl refl
-tells l t (read_float v) = none_named refl refl
-tells l t (read_speed v) = none_named refl refl
 tells l t (start_in s dt) = none_named refl refl
-tells l t (make_float v d) = none_named refl refl
-tells l t (make_speed v d) = none_named refl refl
 tells l t (shift u (add_ticks n)) = none_named refl refl
 tells l t (shift u (sub_ticks n)) = none_named refl refl
 tells l t (shift u (add_float x)) = none_named refl refl
@@ -194,15 +193,18 @@ module _ (l : Lent) (t : Tables l.station) (e : Entry) where
 
 -- ---- and by the calls that the station has had
 
-sized : (st : Station) → Sixteen st.clocks → SixteenSlots st.modulators → Tables st
+sized : (st : Station) → Sixteen of_clock st → Sixteen of_modulator st → Tables st
 sized st c m = record {
-  clocks = record { most = omega (arith, c.keys); filled = omega (arith, c.keys, c.clocks) };
-  modulators = record { most = omega (arith, m.keys); filled = omega (arith, m.keys, m.slots) };
+  clocks = record { most = omega (arith, c.keys); filled = omega (arith, c.keys, c.entries) };
+  modulators = record { most = omega (arith, m.keys); filled = omega (arith, m.keys, m.entries) };
 }
 
 -- every station that calls reach has its tables' sizes
 pub run_tables : (cs ds : List Call) → Tables (after_all (after_all fresh_station cs) ds)
-run_tables cs ds = sized (after_all (after_all fresh_station cs) ds) (run_sixteen (after_all fresh_station cs) (reached_sixteen cs) ds) (run_slots (after_all fresh_station cs) (reached_slots cs) ds)
+run_tables cs ds = sized (after_all (after_all fresh_station cs) ds) (sixteen of_clock) (sixteen of_modulator)
+  where
+    sixteen : (k : Kind) → Sixteen k (after_all (after_all fresh_station cs) ds)
+    sixteen k = run_sixteen k (after_all fresh_station cs) (reached_sixteen k cs) ds
 
 module _ (cs : List Call) where
   reached_tables : Tables (after_all fresh_station cs)

@@ -92,7 +92,7 @@ pub record Same (s t : Station) (id : ClockId) : Type 0 where
 
 holds_map : {A B : Type 0} (f : A → B) (l : List A) (i : ℕ) (x : A) → Holds l i x → Holds (map f l) i (f x)
 unfolding read_at
-holds_map f [] i x h = let z : ◌≡◌ {A = ℕ} 0 1 = cc in absurd (omega arith)
+holds_map f [] i x h = absurd (cc)
 holds_map f (y ∷ l) zero x h = let e : y ≡ x = cc in rw e
 holds_map f (y ∷ l) (suc i) x h = holds_map f l i x h
 

@@ -3,7 +3,6 @@
 -- and leaves every clock as it was. 01, "Speeds"; RULES, no-nan. Assumes nothing.
 use Prim.Native.Nat.{ℕ, zero, suc, ◌*◌, ◌<◌}
 use native.Mathlib.Nat.{zero-mul, mul-pos, zero-lt-suc, lt_irrefl}
-use native.Mathlib.Omega.{arith}
 use mathlib.Core.Path.{◌≡◌, refl, ap, ◌∙◌, subst}
 use mathlib.Core.Bool.{Bool, true, false, ◌&&◌, cond, false≢true}
 use mathlib.Core.List.{List, [], ◌∷◌}
@@ -17,23 +16,21 @@ use Rattle.ids.specs.Lists.{read_at}
 use Rattle.judge.specs.Answer.{accepted}
 use Rattle.judge.specs.Judge.{no_faults, both_faults, first_fault}
 use Rattle.judge.specs.Numbers.{BAD_SPEED}
-use Rattle.values.specs.Speeds.{bad_reading, faults_of_speed, read_faults}
+use Rattle.values.specs.Speeds.{speed_tweens, bad_reading, faults_of_speed, read_faults}
 use Rattle.judge.specs.declared.Faults.{Faults}
 use Rattle.values.specs.declared.clock_speed.ClockSpeed.{ClockSpeed}
 use Rattle.values.specs.declared.clock_speed.ClockSpeed.TheVariants.{SecondsPerTick, TicksPerSecond, TicksPerMinute}
 use Rattle.times.specs.declared.time.ClockId.{ClockId}
 use Rattle.times.specs.Easings.{tween_faults}
-use Rattle.values.specs.Values.{speed_value_faults}
+use Rattle.values.specs.Values.{value_faults}
 use Rattle.times.specs.declared.tween.Tween.{Tween}
-use Rattle.values.specs.declared.value.SpeedValue.{SpeedValue}
-use Rattle.parameter.specs.SpeedParameters.{set_of, target_unit, set_faults, try_set_of}
-use Rattle.parameter.specs.declared.speed.SpeedParameter.{SpeedParameter}
-use Rattle.parameter.specs.declared.speed.SpeedSet.{SpeedSet}
+use Rattle.values.specs.declared.value.Value.{Value}
+use Rattle.parameter.specs.Parameters.{Set, set_of, target_unit, set_faults, try_set_of}
+use Rattle.parameter.specs.declared.Parameter.{Parameter}
 use Rattle.ids.specs.Tables.{refused_call, where_is, read_found}
-use Rattle.clock_table.specs.ClockTables.{clock_table, by_set, set_speed_of}
+use Rattle.clock_table.specs.ClockTables.{clock_table, by_set, set_speed_of, ClockDone}
 use Rattle.clock.specs.declared.Clock.{Clock}
 use Rattle.clock_table.specs.declared.Clocks.{Clocks}
-use Rattle.clock_table.specs.declared.ClockDone.{ClockDone}
 use Rattle.station.specs.Stations.{fresh_station}
 use Rattle.laws.specs.Calls.{Call, after_all}
 use Rattle.laws.specs.SoundStation.{All, CallDoubles, Ticks}
@@ -45,7 +42,7 @@ use Rattle.demands.specs.Events.{clock_in}
 
 all_holds : {A : Type 0} (P : A → Type 0) (l : List A) (i : ℕ) (x : A) → Holds l i x → All P l → P x
 unfolding read_at
-all_holds P [] i x h a = let z : ◌≡◌ {A = ℕ} 0 1 = cc in absurd (omega arith)
+all_holds P [] i x h a = absurd (cc)
 all_holds P (y ∷ l) zero x h a = let e : y ≡ x = cc in rw e at a.0
 all_holds P (y ∷ l) (suc i) x h a = all_holds P l i x h a.1
 
@@ -99,16 +96,16 @@ by_speed a b r p q e = rw (p, q, e)
 -- Every value whose target is in seconds per tick, a fixed speed or a mapping, and every tween, where nothing else of
 -- the call is refused. What a tween that is under way makes of its speed is told above, not here. A program that
 -- refuses every set to seconds per tick would meet these two; `accepted_exactly` of `Exactly` rules it out.
-module _ (v : SpeedValue) (y : Float) (u : target_unit v ≡ SecondsPerTick y) (a : speed_value_faults v ≡ no_faults) (w : Tween) (b : tween_faults w ≡ no_faults) where
+module _ (v : Value ClockSpeed) (y : Float) (u : target_unit v ≡ SecondsPerTick y) (a : value_faults speed_tweens v ≡ no_faults) (w : Tween) (b : tween_faults w ≡ no_faults) where
   -- for every parameter at speed 0, which comes back as it was
-  pub parameter_stays : (p : SpeedParameter) → still p.raw ≡ true → try_set_of p v w ≡ record { refused = BAD_SPEED; parameter = p }
+  pub parameter_stays : (p : Parameter ClockSpeed) → still p.raw ≡ true → try_set_of speed_tweens p v w ≡ record { refused = BAD_SPEED; parameter = p }
   unfolding try_set_of
-  parameter_stays p z = refuses (first_fault (set_faults p v w)) (by_speed (speed_value_faults v) (tween_faults w) (read_faults p.raw (target_unit v)) a b (ap faults_of_speed bad))
+  parameter_stays p z = refuses (first_fault (set_faults speed_tweens p v w)) (by_speed (value_faults speed_tweens v) (tween_faults w) (read_faults p.raw (target_unit v)) a b (ap faults_of_speed bad))
     where
       bad : bad_reading p.raw (target_unit v) ≡ true
       bad = rw u (unreadable p.raw y z)
 
-      refuses : (n : ℕ) → n ≡ BAD_SPEED → ◌≡◌ {A = SpeedSet} (cond (eqb n 0) (record { refused = 0; parameter = set_of p v w }) (record { refused = n; parameter = p })) (record { refused = BAD_SPEED; parameter = p })
+      refuses : (n : ℕ) → n ≡ BAD_SPEED → ◌≡◌ {A = Set ClockSpeed} (cond (eqb n 0) (record { refused = 0; parameter = set_of p v w }) (record { refused = n; parameter = p })) (record { refused = BAD_SPEED; parameter = p })
       refuses n e = rw e
 
   -- for every table, and every id that names a clock in it which is at speed 0: the table comes back, and so that
@@ -117,5 +114,5 @@ module _ (v : SpeedValue) (y : Float) (u : target_unit v ≡ SecondsPerTick y) (
   unfolding set_speed_of
   clock_stays t id c is z =
       let r : set_speed_of t id v w ≡ refused_call clock_table t BAD_SPEED =
-      names_on t id c (names_of t id c is) (λ i x. by_set t i x (try_set_of x.speed v w)) ∙ ap (by_set t id.slot c) (parameter_stays c.speed z) in
+      names_on t id c (names_of t id c is) (λ i x. by_set t i x (try_set_of speed_tweens x.speed v w)) ∙ ap (by_set t id.slot c) (parameter_stays c.speed z) in
       (ap (λ (d : ClockDone). d.refused) r, ap (λ (d : ClockDone). d.table) r)

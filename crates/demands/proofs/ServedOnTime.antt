@@ -11,6 +11,9 @@ use Rattle.judge.specs.Judge.{bad_fraction}
 use Rattle.times.specs.Times.{place_at}
 use Rattle.times.specs.declared.time.ClockId.{ClockId}
 use Rattle.times.proofs.time.Places.{Fraction, fraction, not_refused}
+use Rattle.values.specs.Speeds.{speed_tweens}
+use Rattle.values.specs.Tweenables.{Tweens, float_tweens}
+use Rattle.parameter.specs.Parameters.{try_set_of}
 use Rattle.clock.specs.OneClock.{position_of}
 use Rattle.clock_table.specs.ClockTables.{time_of, clock_time_of}
 use Rattle.station.specs.declared.Station.{Station}
@@ -18,13 +21,13 @@ use Rattle.laws.specs.Sound.{Double}
 use Rattle.laws.specs.SoundStation.{All}
 use Rattle.laws.proofs.lemmas.Entries.{names_read}
 use Rattle.demands.specs.Events.{Event, after_events, advances_of, total, sums_from, dts_of, first_pass}
-use Rattle.demands.specs.Kinds.{Progress, Kind, float_kind, speed_kind, progress_of, progress_by_sums}
+use Rattle.demands.specs.Kinds.{Progress, progress_of, progress_by_sums}
 use Rattle.demands.specs.Served.{Fresh, started, Kept, Grid, Run, Stands, awaited, OnceSet, Served}
 use Rattle.demands.proofs.lemmas.Courses.{run_course, run_progress}
 use Rattle.demands.proofs.lemmas.Going.{Going, start_goes}
 use Rattle.demands.proofs.lemmas.Runs.{run_goes, run_tests, first_same}
-use Rattle.demands.proofs.lemmas.Shapes.{float_shape, speed_shape}
-use Rattle.demands.proofs.lemmas.Timing.{Shape, set_waits}
+use Rattle.demands.proofs.lemmas.Shapes.{sets}
+use Rattle.demands.proofs.lemmas.Timing.{set_waits}
 
 -- the time that is told is where the clock stands
 stands : (st : Station) (id : ClockId) (n : ℕ) → Going st id n → Stands st id n
@@ -45,17 +48,17 @@ summed st id es f k a = rw zero-add at (stands (after_events (started st id) es)
 
 module _ {st : Station} {id : ClockId} {es : List Event} (r : Run st id es) (tick : ℕ) (g : Float) (F : Fraction g) where
   -- a parameter of any kind, from its accepted set on
-  once_set : (k : Kind) → Shape k → OnceSet k (started st id) id es tick g
-  once_set k S p v w s a =
+  once_set : {T : Type 0} (k : Tweens T) → OnceSet k (started st id) id es tick g
+  once_set k p v w s a =
       let b = start_goes st id r.fresh in
-      let q = k.set_left p v w in
-      let l = set_waits k S (awaited id tick g) w s p v a in
-      let c = run_course k S id tick g F w s (started st id) 0 q es b r.kept r.grid l in
+      let q = (try_set_of k p v w).parameter in
+      let l = set_waits k (awaited id tick g) w s p v a in
+      let c = run_course k id tick g F w s (started st id) 0 q es b r.kept r.grid l in
       record {
         course = c;
         times =
-            ap (progress_of k) c ∙ run_progress k S id tick g F w s (started st id) 0 q es false b r.kept r.grid l r.ordered
-            ∙ ap (λ (q : Progress). progress_by_sums (place_at tick g) q (sums_from 0 (advances_of id (started st id) es)) (dts_of es)) (S.sets p v w a).0;
+            ap progress_of c ∙ run_progress k id tick g F w s (started st id) 0 q es false b r.kept r.grid l r.ordered
+            ∙ ap (λ (q : Progress). progress_by_sums (place_at tick g) q (sums_from 0 (advances_of id (started st id) es)) (dts_of es)) (sets k p v w a).0;
       }
 
 -- ---- the demand
@@ -106,6 +109,6 @@ served {st} {id} {es} r tick g D B =
       sum = summed st id es r.fresh r.kept r.grid;
       tests = t;
       first = ap first_pass t ∙ first_same (place_at tick g) (sums_from 0 (advances_of id (started st id) es));
-      floats = once_set r tick g F float_kind float_shape;
-      speeds = once_set r tick g F speed_kind speed_shape;
+      floats = once_set r tick g F float_tweens;
+      speeds = once_set r tick g F speed_tweens;
     }

@@ -17,9 +17,10 @@ use Rattle.values.specs.declared.clock_speed.ClockSpeed.TheVariants.{TicksPerSec
 use Rattle.times.specs.Times.{time_at, place_at}
 use Rattle.times.specs.declared.time.ClockId.{ClockId}
 use Rattle.times.specs.declared.time.ClockTime.{ClockTime}
-use Rattle.values.specs.declared.value.SpeedValue.{SpeedValue}
-use Rattle.values.specs.declared.value.SpeedValue.TheVariants.{Fixed}
-use Rattle.parameter.specs.SpeedParameters as speeds
+use Rattle.values.specs.declared.clock_speed.ClockSpeed.{ClockSpeed}
+use Rattle.values.specs.declared.value.Value.{Value}
+use Rattle.values.specs.declared.value.Value.TheVariants.{Fixed}
+use Rattle.parameter.specs.Parameters.{update_of}
 use Rattle.clock.specs.OneClock.{tick_of, update_clock_of}
 use Rattle.clock_table.specs.ClockTables.{add_clock_of, tick_on_of, time_of, clock_time_of}
 use Rattle.commands.specs.ClockCommands.{run_clock_of}
@@ -37,7 +38,7 @@ use Rattle.demands.proofs.lemmas.Going.{Going, call_goes, start_goes}
 use Rattle.demands.proofs.lemmas.Runs.{run_goes}
 
 -- one tick a second
-abbrev pub one : SpeedValue
+abbrev pub one : Value ClockSpeed
 one = Fixed (TicksPerSecond one_f)
 
 -- the first clock of a station
@@ -54,7 +55,7 @@ running = after with_clock (clock (Start first))
 -- Not every call is refused: an add, a start and a frame are accepted. A program that accepts these three alone meets
 -- it; which calls are accepted, in general, `accepted_exactly` of `Exactly` says.
 pub some_call_is_accepted : (call_number fresh_station (clock (Add one)) ≡ 0) × (call_number with_clock (clock (Start first)) ≡ 0) × (call_number running (frame one_f) ≡ 0)
-unfolding number_of first_fault add sub mul lt le eq to_unsigned free_of lives_in standing_of find_of read_at room_for taken_of tick_of update_clock_of add_clock_of tick_on_of run_clock_of speeds.update_of info_in turn_clock modulator_turns modulators_turned clock_turns clocks_turned frame_of
+unfolding number_of first_fault add sub mul lt le eq to_unsigned free_of lives_in standing_of find_of read_at room_for taken_of tick_of update_clock_of add_clock_of tick_on_of run_clock_of update_of info_in turn_clock modulator_turns modulators_turned clock_turns clocks_turned frame_of
 some_call_is_accepted = (refl, refl, refl)
 
 -- the clock's time, once it was started, and a frame of a second later
@@ -63,7 +64,7 @@ unfolding number_of first_fault lt le eq free_of lives_in standing_of find_of re
 at_zero = refl
 
 at_one : clock_time_of (after running (frame one_f)).clocks first ≡ accepted (time_at first 1 zero_f)
-unfolding number_of first_fault add sub mul lt le eq to_unsigned free_of lives_in standing_of find_of read_at room_for taken_of tick_of update_clock_of add_clock_of tick_on_of clock_time_of run_clock_of speeds.update_of info_in turn_clock modulator_turns modulators_turned clock_turns clocks_turned frame_of
+unfolding number_of first_fault add sub mul lt le eq to_unsigned free_of lives_in standing_of find_of read_at room_for taken_of tick_of update_clock_of add_clock_of tick_on_of clock_time_of run_clock_of update_of info_in turn_clock modulator_turns modulators_turned clock_turns clocks_turned frame_of
 at_one = refl
 
 abbrev ticks_in : Answer ClockTime → ℕ

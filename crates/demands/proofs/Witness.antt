@@ -10,6 +10,7 @@ use mathlib.Core.Bool.{true, false, false≢true}
 use mathlib.Core.List.{List, [], ◌∷◌}
 use lib.IntN.{pos, negsuc}
 use lib.Dec.{lit≤}
+use Rattle.std.specs.Prelude.{Some}
 use lib.Ieee.{Float, fin, add, sub, mul, div, lt, le, eq, fits, to_unsigned, of_int}
 use Rattle.doubles.specs.Doubles.{zero_f, one_f, half_f, scaled}
 use Rattle.ids.specs.Keys.{free_of, lives_in, standing_of, find_of}
@@ -19,22 +20,22 @@ use Rattle.times.specs.Durations.{seconds_of}
 use Rattle.judge.specs.Judge.{number_of, first_fault}
 use Rattle.judge.specs.Numbers.{«GONE», TOO_FAR, NEVER_ISSUED}
 use Rattle.values.specs.Speeds.{interpolate_speed_of}
+use Rattle.values.specs.Tweenables.{float_tweens}
 use Rattle.times.specs.Times.{order_of, place_at}
 use Rattle.values.specs.declared.clock_speed.ClockSpeed.TheVariants.{TicksPerSecond}
 use Rattle.times.specs.declared.start_time.StartTime.TheVariants.{Immediate, At}
 use Rattle.times.specs.declared.time.ClockId.{ClockId}
 use Rattle.times.specs.Easings.{apply_of, tween_value_of}
-use Rattle.values.specs.Values.{amount_of, map_speed_of}
+use Rattle.values.specs.Values.{amount_of, map_of}
 use Rattle.times.specs.declared.tween.Easing.TheVariants.{Linear}
 use Rattle.times.specs.declared.tween.Tween.{Tween}
-use Rattle.values.specs.declared.value.FloatValue.TheVariants as float
-use Rattle.values.specs.declared.value.SpeedValue.{SpeedValue}
-use Rattle.values.specs.declared.value.SpeedValue.TheVariants as speed
+use Rattle.values.specs.declared.clock_speed.ClockSpeed.{ClockSpeed}
+use Rattle.values.specs.declared.value.Value.{Value}
+use Rattle.values.specs.declared.value.Value.TheVariants.{Fixed, FromModulator}
 use Rattle.parameter.specs.Courses.{new_course, step_of}
-use Rattle.parameter.specs.FloatParameters as floats
-use Rattle.parameter.specs.SpeedParameters as speeds
-use Rattle.parameter.specs.declared.float.FloatParameter.{FloatParameter}
-use Rattle.info.specs.ParametersIn.{try_update_float_in}
+use Rattle.parameter.specs.Parameters.{new_of, try_set_of, update_of, tweened_of, try_update_of}
+use Rattle.parameter.specs.declared.Parameter.{Parameter}
+use Rattle.info.specs.ParametersIn.{try_update_in}
 use Rattle.info.specs.Infos.{when_to_start_of, modulator_value_of}
 use Rattle.clock.specs.OneClock.{tick_of, update_clock_of}
 use Rattle.clock_table.specs.ClockTables.{add_clock_of, remove_of, tick_on_of, set_speed_of}
@@ -50,8 +51,8 @@ use Rattle.station.specs.Turns.{turn_clock, turn_modulator}
 use Rattle.station.specs.declared.Station.{Station}
 use Rattle.laws.specs.Calls.{Call, clock, modulator, frame, after, after_all, of_clock, named, told, call_number}
 use Rattle.laws.specs.SoundStation.{All}
-use Rattle.demands.specs.Events.{Event, call, update, moves, advance_in, advances_of, total, sums_from, in_order, tests_of, at, first_pass, first_reach}
-use Rattle.demands.specs.Kinds.{float_kind, resting, running, course_of, progress_of}
+use Rattle.demands.specs.Events.{Event, call, update, moves, advance_in, advances_of, total, sums_from, in_order, tests_of, first_pass, first_reach}
+use Rattle.demands.specs.Kinds.{resting, running, course_of, progress_of}
 use Rattle.demands.specs.Served.{started, Kept, Grid, Run, awaited, Begins, Served}
 use Rattle.demands.proofs.FreshClocks.{Spares, reached_fresh}
 use Rattle.demands.proofs.ServedOnTime.{served}
@@ -61,8 +62,8 @@ use Rattle.demands.proofs.ServedOnTime.{served}
 quarter : Float
 quarter = fin false 1 (negsuc 1)
 
-abbrev per_second : Float → SpeedValue
-per_second x = speed.Fixed (TicksPerSecond x)
+abbrev per_second : Float → Value ClockSpeed
+per_second x = Fixed (TicksPerSecond x)
 
 id_of : ℕ → ℕ → ClockId
 id_of i g = record { slot = i; generation = g }
@@ -73,7 +74,7 @@ unfolding id_of
 before = clock (command.Add (per_second (fin false 1 (pos 17)))) ∷ clock (command.Add (per_second one_f)) ∷ clock (command.Remove (id_of 1 1)) ∷ []
 
 -- 1.5 ticks a second
-pace : SpeedValue
+pace : Value ClockSpeed
 pace = per_second (fin false 3 (negsuc 0))
 
 -- slot 1 again
@@ -90,7 +91,7 @@ between : List Call
 unfolding id_of quarter
 between =
     modulator (modulators.AddTweener half_f)
-    ∷ clock (command.Add (speed.FromModulator (record { slot = 0; generation = 1 }) (record { in_lo = zero_f; in_hi = one_f; out_lo = TicksPerSecond one_f; out_hi = TicksPerSecond (fin false 3 (pos 0)); easing = Linear })))
+    ∷ clock (command.Add (FromModulator (record { slot = 0; generation = 1 }) (record { in_lo = zero_f; in_hi = one_f; out_lo = TicksPerSecond one_f; out_hi = TicksPerSecond (fin false 3 (pos 0)); easing = Linear })))
     ∷ clock (command.Start (id_of 0 1))
     ∷ frame quarter
     ∷ []
@@ -154,12 +155,12 @@ waits : Tween
 unfolding ours
 waits = record { start_time = At (awaited ours 1 half_f); duration = 500_000_000; easing = Linear }
 
-rest : FloatParameter
-rest = floats.new_of (float.Fixed zero_f) zero_f
+rest : Parameter Float
+rest = new_of (Fixed zero_f) zero_f
 
-waiting : FloatParameter
+waiting : Parameter Float
 unfolding rest waits
-waiting = (floats.try_set_of rest (float.Fixed (fin false 1 (pos 3))) waits).parameter
+waiting = (try_set_of float_tweens rest (Fixed (fin false 1 (pos 3))) waits).parameter
 
 -- ---- what is computed
 
@@ -171,13 +172,13 @@ record Computed : Type 0 where
   -- four of the five frames are accepted
   advances : advances_of ours (started st ours) es ≡ fin false 3 (negsuc 2) ∷ fin false 3 (negsuc 1) ∷ fin false 3 (negsuc 1) ∷ fin false 3 (negsuc 1) ∷ []
   ordered : in_order false (started st ours) es ≡ true
-  accepts : (floats.try_set_of rest (float.Fixed (fin false 1 (pos 3))) waits).refused ≡ 0
+  accepts : (try_set_of float_tweens rest (Fixed (fin false 1 (pos 3))) waits).refused ≡ 0
   -- tick 1 alone is reached by the second update, tick 1 and a half by the third
-  third : first_pass (tests_of (awaited ours 1 half_f) (started st ours) es) ≡ at 2
-  times : progress_of float_kind (course_of float_kind (started st ours) waiting es) ≡ running (new_course waits) ∷ running (new_course waits) ∷ running (record { tween = waits; time = quarter }) ∷ resting ∷ []
+  third : first_pass (tests_of (awaited ours 1 half_f) (started st ours) es) ≡ Some 2
+  times : progress_of (course_of float_tweens (started st ours) waiting es) ≡ running (new_course waits) ∷ running (new_course waits) ∷ running (record { tween = waits; time = quarter }) ∷ resting ∷ []
 
 computed : Computed
-unfolding course_of progress_of tests_of first_pass advances_of advance_in in_order moves waiting waits rest es st ours before pace between quarter id_of try_update_float_in floats.try_set_of floats.update_of floats.tweened_of floats.try_update_of after_all run_clock_of run_modulator_of add_clock_of remove_of tick_on_of set_speed_of add_tweener_of free_of lives_in standing_of find_of read_at number_of first_fault le lt eq add sub mul div to_unsigned of_int seconds_of interpolate_speed_of apply_of tween_value_of amount_of map_speed_of step_of speeds.update_of speeds.tweened_of speeds.try_set_of modulator_value_of when_to_start_of order_of room_for taken_of tick_of update_clock_of update_tweener_of info_in turn_clock turn_modulator modulator_turns modulators_turned clock_turns clocks_turned frame_of
+unfolding course_of progress_of tests_of first_pass advances_of advance_in in_order moves waiting waits rest es st ours before pace between quarter id_of try_update_in try_set_of update_of tweened_of try_update_of after_all run_clock_of run_modulator_of add_clock_of remove_of tick_on_of set_speed_of add_tweener_of free_of lives_in standing_of find_of read_at number_of first_fault le lt eq add sub mul div to_unsigned of_int seconds_of interpolate_speed_of apply_of tween_value_of amount_of map_of step_of modulator_value_of when_to_start_of order_of room_for taken_of tick_of update_clock_of update_tweener_of info_in turn_clock turn_modulator modulator_turns modulators_turned clock_turns clocks_turned frame_of
 computed = record { dead = refl; foreign = refl; far = refl; advances = refl; ordered = refl; accepts = refl; third = refl; times = refl }
 
 -- ---- the theorem, applied
@@ -211,9 +212,9 @@ stands : place_at witness.sum.time.ticks witness.sum.time.fraction ≡ 21 * 2 ^ 
 stands = witness.sum.place ∙ sum_is
 
 -- the third sum is the first that reaches 1.5
-reached : first_reach (place_at 1 half_f) (sums_from 0 (advances_of ours (started st ours) es)) ≡ at 2
+reached : first_reach (place_at 1 half_f) (sums_from 0 (advances_of ours (started st ours) es)) ≡ Some 2
 reached = sym witness.first ∙ computed.third
 
-begins : Begins float_kind (started st ours) ours es 1 half_f waiting waits
+begins : Begins float_tweens (started st ours) ours es 1 half_f waiting waits
 unfolding waiting waits
-begins = witness.floats rest (float.Fixed (fin false 1 (pos 3))) waits refl computed.accepts
+begins = witness.floats rest (Fixed (fin false 1 (pos 3))) waits refl computed.accepts

@@ -1,6 +1,6 @@
 -- Demand 1: which conditions of the refusal table hold of a call's arguments, each judged by itself, whatever else is
 -- wrong. 01, "Refusal numbers". RULES, refusal-numbers. Assumes nothing.
-use Rattle.std.specs.Prelude.{ℕ, zero, suc, ◌+◌, ◌-◌, ◌*◌, ◌^◌, Bool, true, false, not, ◌&&◌, ◌||◌, cond, List, [], ◌∷◌, pos, length, ltb, eqb, Float}
+use Rattle.std.specs.Prelude.{ℕ, zero, suc, ◌+◌, ◌-◌, ◌*◌, ◌^◌, Bool, true, false, not, ◌&&◌, ◌||◌, cond, Option, List, [], ◌∷◌, pos, length, ltb, eqb, Float}
 use Rattle.std.specs.Float.{fin}
 use Rattle.std.specs.Float.Ieee.{neg, lt}
 use Rattle.doubles.specs.Doubles.{sign_of, scaled}
@@ -11,26 +11,26 @@ use Rattle.ticks.specs.WholeTicks.{taken_of}
 use Rattle.judge.specs.Answer.{Answer, accepted, refused, is_refused}
 use Rattle.judge.specs.Judge.{Conditions, of_arguments, of_id, of_turn, no_faults, both_faults, dt_faults, float_faults}
 use Rattle.judge.specs.Judge as judge
-use Rattle.values.specs.Speeds.{speed_faults}
 use Rattle.times.specs.Starts.{start_faults}
 use Rattle.times.specs.Times.{clock_time_faults, shift_faults, ticks_more}
 use Rattle.judge.specs.declared.Faults.{Faults}
 use Rattle.times.specs.declared.time.ClockId.{ClockId}
 use Rattle.times.specs.declared.time.ClockTime.{ClockTime}
 use Rattle.times.specs.Easings.{tween_faults}
-use Rattle.values.specs.Values.{float_value_faults, speed_value_faults}
+use Rattle.values.specs.Speeds.{speed_tweens}
+use Rattle.values.specs.Tweenables.{Tweens, float_tweens}
+use Rattle.values.specs.Values.{value_faults}
 use Rattle.waveform.specs.Waves.{wave_faults}
 use Rattle.times.specs.declared.tween.Tween.{Tween}
 use Rattle.values.specs.declared.value.ModulatorId.{ModulatorId}
-use Rattle.values.specs.declared.value.SpeedValue.{SpeedValue}
-use Rattle.parameter.specs.FloatParameters as floats
-use Rattle.parameter.specs.SpeedParameters as speeds
-use Rattle.parameter.specs.declared.speed.SpeedParameter.{SpeedParameter}
-use Rattle.info.specs.ParametersIn.{speed_due_of, speed_source_of}
+use Rattle.values.specs.declared.clock_speed.ClockSpeed.{ClockSpeed}
+use Rattle.values.specs.declared.value.Value.{Value}
+use Rattle.parameter.specs.Parameters.{set_faults, update_of}
+use Rattle.parameter.specs.declared.Parameter.{Parameter}
+use Rattle.info.specs.ParametersIn.{parameter_due_of, source_of}
 use Rattle.info.specs.declared.info.Info.{Info}
 use Rattle.clock.specs.OneClock.{position_of, advance_of, sum_of}
 use Rattle.clock.specs.declared.Clock.{Clock}
-use Rattle.clock.specs.declared.Reported.{Reported}
 use Rattle.modulator.specs.Tweeners.{tweener_faults}
 use Rattle.modulator.specs.Lfos.{builder_faults}
 use Rattle.modulator_table.specs.declared.Modulator.{Modulator}
@@ -43,7 +43,7 @@ use Rattle.station.specs.Frames.{Try, went, stopped, no_reports, seeing, watchin
 use Rattle.station.specs.Stations.{info_in}
 use Rattle.station.specs.declared.Station.{Station}
 use Rattle.laws.specs.Calls.{Call, clock, modulator, frame, of_clock, of_modulator, keys_of, lives}
-use Rattle.demands.specs.Entries.{Lent, Shift, add_ticks, sub_ticks, add_float, sub_float, Entry, on_station, set_float, set_speed, update_float, update_speed, advance_float, advance_speed, report, when, read_float, read_speed, start_in, make_float, make_speed, shift}
+use Rattle.demands.specs.Entries.{Lent, Shift, add_ticks, sub_ticks, add_float, sub_float, OnKind, set, update, advance, read, make, Entry, on_station, on_float, on_speed, report, when, start_in, shift}
 use Rattle.demands.specs.Events.{clock_in}
 
 -- ---- GONE and NEVER_ISSUED, of an id: RULES, gone and never-issued
@@ -96,8 +96,8 @@ every_taken (k ∷ ks) = taken_or_retired k && every_taken ks
 -- ---- TOO_FAR and TICKS_FULL, of one clock in its turn by dt, with what it sees, as if dt were accepted
 
 -- its speed, which is updated first: RULES, clock-update
-abbrev pub sped_in : Info → Clock → Float → SpeedParameter
-sped_in info c dt = (speeds.update_of c.speed dt (speed_due_of info c.speed) (speed_source_of info c.speed)).parameter
+abbrev pub sped_in : Info → Clock → Float → Parameter ClockSpeed
+sped_in info c dt = (update_of speed_tweens c.speed dt (parameter_due_of info c.speed) (source_of info c.speed)).parameter
 
 -- TOO_FAR: RULES, too-far
 abbrev pub too_far_in : Info → Clock → Float → Bool
@@ -113,12 +113,12 @@ abbrev pub slot_in : (Info → Clock → Float → Bool) → Info → Float → 
 slot_in f info dt keys i cs = read_at false (λ k. cond k.used (read_at false (λ c. f (watching info cs) c dt) cs i) false) keys i
 
 -- the slots behind it are asked only where its turn goes
-abbrev pub onward : (List Clock → List Reported → Bool) → Try → Bool
+abbrev pub onward : (List Clock → List (Option ℕ) → Bool) → Try → Bool
 onward g (went cs rs) = g cs rs
 onward g (stopped n) = false
 
 -- of n slots from slot i on
-unfoldable pub lowest_in : (Info → Clock → Float → Bool) → Info → Float → List Key → ℕ → ℕ → List Clock → List Reported → Bool
+unfoldable pub lowest_in : (Info → Clock → Float → Bool) → Info → Float → List Key → ℕ → ℕ → List Clock → List (Option ℕ) → Bool
 lowest_in f info dt keys zero i cs rs = false
 lowest_in f info dt keys (suc n) i cs rs = slot_in f info dt keys i cs || onward (lowest_in f info dt keys n (i + 1)) (clock_turn info dt keys i cs rs)
 
@@ -134,12 +134,12 @@ of_add f ks = judge.of_add f (every_taken ks)
 
 -- a set is judged by the present speed too (RULES, bad-reading); where no clock lives under the id, by the arguments
 -- alone
-abbrev pub set_faults_on : Answer Clock → SpeedValue → Tween → Faults
-set_faults_on (accepted c) v w = speeds.set_faults c.speed v w
-set_faults_on (refused n) v w = both_faults (speed_value_faults v) (tween_faults w)
+abbrev pub set_faults_on : Answer Clock → Value ClockSpeed → Tween → Faults
+set_faults_on (accepted c) v w = set_faults speed_tweens c.speed v w
+set_faults_on (refused n) v w = both_faults (value_faults speed_tweens v) (tween_faults w)
 
 abbrev pub of_clocks : Station → ClockCommand → Conditions
-of_clocks st (clocks.Add v) = of_add (speed_value_faults v) (keys_of of_clock st)
+of_clocks st (clocks.Add v) = of_add (value_faults speed_tweens v) (keys_of of_clock st)
 of_clocks st (clocks.Remove id) = by_clock st id no_faults
 of_clocks st (clocks.Start id) = by_clock st id no_faults
 of_clocks st (clocks.Stop id) = by_clock st id no_faults
@@ -154,7 +154,7 @@ of_modulators st (modulators.AddTweener x) = of_add (float_faults x) (keys_of of
 of_modulators st (modulators.AddLfo b) = of_add (builder_faults b) (keys_of of_modulator st)
 of_modulators st (modulators.Remove id) = by_modulator st id no_faults
 of_modulators st (modulators.SetTweener id x w) = by_kind is_tweener st id (tweener_faults x w)
-of_modulators st (modulators.SetParameter id p v w) = by_kind is_lfo st id (both_faults (float_value_faults v) (tween_faults w))
+of_modulators st (modulators.SetParameter id p v w) = by_kind is_lfo st id (both_faults (value_faults float_tweens v) (tween_faults w))
 of_modulators st (modulators.SetWaveform id w) = by_kind is_lfo st id (wave_faults w)
 of_modulators st (modulators.SetPhase id x) = by_kind is_lfo st id (float_faults x)
 of_modulators st (modulators.Value id) = by_modulator st id no_faults
@@ -196,19 +196,19 @@ of_shift t (sub_float x) = judge.of_shift (shift_faults t x) (sign_of x && past_
 
 -- ---- every call
 
+-- on a parameter of a kind
+abbrev pub of_parameter : {T : Type 0} → Tweens T → Parameter T → OnKind T → Conditions
+of_parameter k p (set v w) = of_arguments (set_faults k p v w)
+of_parameter k p (update dt) = of_arguments (dt_faults dt)
+of_parameter k p (advance dt s) = of_arguments (dt_faults dt)
+of_parameter k p (read v) = of_arguments (value_faults k v)
+of_parameter k p (make v d) = of_arguments (both_faults (value_faults k v) (k.wrong d))
+
 abbrev pub conditions_of : Lent → Entry → Conditions
 conditions_of l (on_station c) = of_call l.station c
-conditions_of l (set_float v w) = of_arguments (floats.set_faults l.float v w)
-conditions_of l (set_speed v w) = of_arguments (speeds.set_faults l.speed v w)
-conditions_of l (update_float dt) = of_arguments (dt_faults dt)
-conditions_of l (update_speed dt) = of_arguments (dt_faults dt)
-conditions_of l (advance_float dt w i) = of_arguments (dt_faults dt)
-conditions_of l (advance_speed dt w i) = of_arguments (dt_faults dt)
+conditions_of l (on_float c) = of_parameter float_tweens l.float c
+conditions_of l (on_speed c) = of_parameter speed_tweens l.speed c
 conditions_of l (report id) = of_report l.station id l.buffer
 conditions_of l (when t) = of_arguments (clock_time_faults t)
-conditions_of l (read_float v) = of_arguments (float_value_faults v)
-conditions_of l (read_speed v) = of_arguments (speed_value_faults v)
 conditions_of l (start_in s dt) = of_arguments (both_faults (dt_faults dt) (start_faults s))
-conditions_of l (make_float v d) = of_arguments (both_faults (float_value_faults v) (float_faults d))
-conditions_of l (make_speed v d) = of_arguments (both_faults (speed_value_faults v) (speed_faults d))
 conditions_of l (shift t s) = of_shift t s

@@ -1,6 +1,6 @@
 -- Demand 3: what a run is made of, and what is read off it, in whole numbers: a double stands as its size in units of
 -- 2^-1074. 01, "How far each statement binds". RULES, served. Assumes nothing.
-use Rattle.std.specs.Prelude.{ℕ, suc, ◌+◌, Bool, false, not, ◌&&◌, ◌||◌, cond, List, [], ◌∷◌, ◌++◌, eqb, leb, Float}
+use Rattle.std.specs.Prelude.{ℕ, ◌+◌, Bool, false, not, ◌&&◌, ◌||◌, cond, Option, List, [], ◌∷◌, ◌++◌, position, eqb, leb, Float}
 use Rattle.doubles.specs.Doubles.{scaled}
 use Rattle.judge.specs.Answer.{Answer, accepted, refused}
 use Rattle.judge.specs.Judge.{bad_dt}
@@ -94,22 +94,12 @@ tests_of t st [] = []
 tests_of t st (call c ∷ es) = tests_of t (after st c) es
 tests_of t st (update dt ∷ es) = where_accepted dt (is_now (when_to_start_of (info_in st) t)) ++ tests_of t st es
 
--- ---- the first of a list
+-- ---- the first of a list, counted from 0
 
-pub data Place : Type 0 where
-  never : Place
-  at : ℕ → Place
-
-abbrev pub later : Place → Place
-later never = never
-later (at k) = at (suc k)
-
--- where the first test passes, counted from 0
-unfoldable pub first_pass : List Bool → Place
-first_pass [] = never
-first_pass (b ∷ bs) = cond b (at 0) (later (first_pass bs))
+-- where the first test passes
+unfoldable pub first_pass : List Bool → Option ℕ
+first_pass bs = position (λ b. b) bs
 
 -- where the first sum reaches w
-unfoldable pub first_reach : ℕ → List ℕ → Place
-first_reach w [] = never
-first_reach w (n ∷ ns) = cond (leb w n) (at 0) (later (first_reach w ns))
+unfoldable pub first_reach : ℕ → List ℕ → Option ℕ
+first_reach w ns = position (leb w) ns

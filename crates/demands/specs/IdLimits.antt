@@ -14,11 +14,10 @@ use Rattle.times.specs.declared.start_time.StartTime.TheVariants.{Immediate}
 use Rattle.times.specs.declared.time.ClockId.{ClockId}
 use Rattle.times.specs.declared.tween.Easing.TheVariants.{Linear}
 use Rattle.times.specs.declared.tween.Tween.{Tween}
-use Rattle.values.specs.declared.value.FloatValue.TheVariants as toFloat
 use Rattle.values.specs.declared.value.ModulatorId.{ModulatorId}
-use Rattle.values.specs.declared.value.SpeedValue.TheVariants as toSpeed
+use Rattle.values.specs.declared.value.Value.TheVariants.{Fixed}
 use Rattle.waveform.specs.declared.Waveform.TheVariants.{Triangle, Saw, Pulse}
-use Rattle.parameter.specs.SpeedParameters as speeds
+use Rattle.parameter.specs.Parameters.{try_set_of}
 use Rattle.modulator.specs.declared.lfo.LfoParameter.TheVariants.{Frequency}
 use Rattle.clock_table.specs.ClockTables.{add_clock_of, remove_of, tick_on_of, reset_clock_of, set_speed_of, clock_time_of, clock_ticking_of, clock_speed_of}
 use Rattle.modulator_table.specs.ModulatorTables as tables
@@ -39,8 +38,8 @@ use Rattle.demands.specs.Limits.{Limit, all, limit, one, a_nan, per_second, twee
 abbrev morning : Station
 morning =
     after_all fresh_station
-    (clock (clocks.Add (toSpeed.Fixed per_second)) ∷ clock (clocks.Remove (record { slot = 0; generation = 1 })) ∷ clock (clocks.Add (toSpeed.Fixed per_second))
-    ∷ clock (clocks.Add (toSpeed.Fixed per_second)) ∷ clock (clocks.Add (toSpeed.Fixed per_second)) ∷ clock (clocks.Remove (record { slot = 2; generation = 1 }))
+    (clock (clocks.Add (Fixed per_second)) ∷ clock (clocks.Remove (record { slot = 0; generation = 1 })) ∷ clock (clocks.Add (Fixed per_second))
+    ∷ clock (clocks.Add (Fixed per_second)) ∷ clock (clocks.Add (Fixed per_second)) ∷ clock (clocks.Remove (record { slot = 2; generation = 1 }))
     ∷ modulator (modulators.AddTweener one) ∷ modulator (modulators.Remove (record { slot = 0; generation = 1 })) ∷ modulator (modulators.AddTweener one)
     ∷ modulator (modulators.AddLfo (lfo Triangle fixed fixed fixed one)) ∷ modulator (modulators.AddLfo (lfo Saw fixed fixed fixed one)) ∷ modulator (modulators.Remove (record { slot = 2; generation = 1 }))
     ∷ [])
@@ -97,8 +96,8 @@ id_table =
     ++ clock_ids (λ id. clocks.Start id)
     ++ clock_ids (λ id. clocks.Stop id)
     ++ clock_ids (λ id. clocks.Reset id)
-    ++ clock_ids (λ id. clocks.SetSpeed id (toSpeed.Fixed per_second) tween)
-    ++ ids BAD_SPEED BAD_SPEED (λ i g. call_number morning (clock (clocks.SetSpeed (record { slot = i; generation = g }) (toSpeed.Fixed (TicksPerSecond a_nan)) too_long)))
+    ++ clock_ids (λ id. clocks.SetSpeed id (Fixed per_second) tween)
+    ++ ids BAD_SPEED BAD_SPEED (λ i g. call_number morning (clock (clocks.SetSpeed (record { slot = i; generation = g }) (Fixed (TicksPerSecond a_nan)) too_long)))
     ++ clock_ids (λ id. clocks.Time id)
     ++ clock_ids (λ id. clocks.Ticking id)
     ++ clock_ids (λ id. clocks.Speed id)
@@ -109,7 +108,7 @@ id_table =
     ++ modulator_ids 0 NEVER_ISSUED (λ id. modulators.SetTweener id one tween)
     ++ modulator_ids BAD_FLOAT NEVER_ISSUED (λ id. modulators.SetTweener id a_nan too_long)
     ++ modulator_ids NEVER_ISSUED 0 (λ id. modulators.SetParameter id Frequency fixed tween)
-    ++ modulator_ids NEVER_ISSUED BAD_FLOAT (λ id. modulators.SetParameter id Frequency (toFloat.Fixed a_nan) too_long)
+    ++ modulator_ids NEVER_ISSUED BAD_FLOAT (λ id. modulators.SetParameter id Frequency (Fixed a_nan) too_long)
     ++ modulator_ids NEVER_ISSUED 0 (λ id. modulators.SetWaveform id Saw)
     ++ modulator_ids NEVER_ISSUED BAD_FLOAT (λ id. modulators.SetWaveform id (Pulse a_nan))
     ++ modulator_ids NEVER_ISSUED 0 (λ id. modulators.SetPhase id one)
@@ -117,5 +116,5 @@ id_table =
 
 -- the one claim: dead modulators are gone for a call of either kind, living ones of the other kind were never issued
 pub id_limits : T (all id_table)
-unfolding all id_table number_of first_fault of_bits lt le eq div free_of lives_in standing_of find_of read_at after_all run_clock_of run_modulator_of add_clock_of remove_of tick_on_of reset_clock_of set_speed_of clock_time_of clock_ticking_of clock_speed_of speeds.try_set_of tables.add_tweener_of tables.add_lfo_of tables.remove_of tables.set_tweener_of tables.set_parameter_of tables.set_waveform_of tables.set_phase_of tables.modulator_value_of report_of
+unfolding all id_table number_of first_fault of_bits lt le eq div free_of lives_in standing_of find_of read_at after_all run_clock_of run_modulator_of add_clock_of remove_of tick_on_of reset_clock_of set_speed_of clock_time_of clock_ticking_of clock_speed_of try_set_of tables.add_tweener_of tables.add_lfo_of tables.remove_of tables.set_tweener_of tables.set_parameter_of tables.set_waveform_of tables.set_phase_of tables.modulator_value_of report_of
 id_limits = tt

@@ -8,8 +8,8 @@ use Rattle.doubles.specs.Doubles.{scaled}
 use Rattle.judge.specs.Answer.{number_told}
 use Rattle.judge.specs.Judge.{number_of, first_fault, dt_faults}
 use Rattle.judge.specs.Numbers.{BAD_DT, BAD_FLOAT, BAD_SPEED, BAD_EASE, BAD_MAP, BAD_TIME, TICKS_FULL, BEFORE_ZERO}
-use Rattle.values.specs.Speeds.{try_spt_of, try_tps_of, try_tpm_of, try_interpolate_speed_of}
-use Rattle.values.specs.Tweenables.{try_interpolate_of}
+use Rattle.values.specs.Speeds.{speed_tweens, try_spt_of, try_tps_of, try_tpm_of}
+use Rattle.values.specs.Tweenables.{float_tweens, try_interpolate_of}
 use Rattle.times.specs.Durations.{try_seconds_of}
 use Rattle.times.specs.Starts.{try_update_of}
 use Rattle.times.specs.Times.{time_at, try_from_float_of, try_add_ticks_of, try_sub_ticks_of, later_of, earlier_of, try_add_float_of, try_sub_float_of, try_order_of}
@@ -21,25 +21,21 @@ use Rattle.times.specs.declared.start_time.StartTime.{StartTime}
 use Rattle.times.specs.declared.start_time.StartTime.TheVariants.{Immediate, Delayed, At}
 use Rattle.times.specs.declared.start_time.When.TheVariants.{Later}
 use Rattle.times.specs.Easings.{try_apply_of}
-use Rattle.values.specs.Values.{speed_value_faults, try_map_float_of, try_map_speed_of, try_map_output_of, try_value_output_of}
+use Rattle.values.specs.Values.{value_faults, try_map_of, try_map_output_of, try_value_output_of}
 use Rattle.waveform.specs.Waves.{wave_faults, try_wave_value_of}
 use Rattle.times.specs.declared.tween.Easing.{Easing}
 use Rattle.times.specs.declared.tween.Easing.TheVariants.{Linear, InPowi, OutPowi, InOutPowi}
 use Rattle.times.specs.declared.tween.Tween.{Tween}
-use Rattle.values.specs.declared.value.FloatMapping.{FloatMapping}
-use Rattle.values.specs.declared.value.SpeedMapping.{SpeedMapping}
-use Rattle.values.specs.declared.value.FloatValue.{FloatValue}
-use Rattle.values.specs.declared.value.FloatValue.TheVariants as toFloat
-use Rattle.values.specs.declared.value.SpeedValue.{SpeedValue}
-use Rattle.values.specs.declared.value.SpeedValue.TheVariants as toSpeed
+use Rattle.values.specs.declared.value.Mapping.{Mapping}
+use Rattle.values.specs.declared.value.Value.{Value}
+use Rattle.values.specs.declared.value.Value.TheVariants.{Fixed, FromModulator}
 use Rattle.values.specs.declared.value.Op.TheVariants as op
 use Rattle.values.specs.declared.value.ModulatorId.{ModulatorId}
 use Rattle.waveform.specs.declared.Waveform.{Waveform}
 use Rattle.waveform.specs.declared.Waveform.TheVariants.{Triangle, Saw, Pulse}
-use Rattle.parameter.specs.FloatParameters as floats
-use Rattle.parameter.specs.SpeedParameters as speeds
-use Rattle.parameter.specs.declared.speed.SpeedParameter.{SpeedParameter}
-use Rattle.info.specs.Infos.{try_when_to_start_of, try_raw_float_in, try_raw_speed_in, try_update_start_in}
+use Rattle.parameter.specs.Parameters.{new_of, try_new_of, set_faults}
+use Rattle.parameter.specs.declared.Parameter.{Parameter}
+use Rattle.info.specs.Infos.{try_when_to_start_of, try_raw_in, try_update_start_in}
 use Rattle.modulator.specs.Tweeners.{tweener_faults}
 use Rattle.modulator.specs.Lfos.{builder_faults}
 use Rattle.modulator.specs.declared.lfo.LfoBuilder.{LfoBuilder}
@@ -109,24 +105,21 @@ tween_of s n e = record { start_time = s; duration = n; easing = e }
 abbrev pub tween : Tween
 tween = tween_of Immediate 0 Linear
 
-abbrev float_map : Float → Float → Float → Float → Easing → FloatMapping
-float_map a b c d e = record { in_lo = a; in_hi = b; out_lo = c; out_hi = d; easing = e }
+abbrev a_map : {T : Type 0} → Float → Float → T → T → Easing → Mapping T
+a_map a b c d e = record { in_lo = a; in_hi = b; out_lo = c; out_hi = d; easing = e }
 
-abbrev mapping : FloatMapping
-mapping = float_map one three one three Linear
+abbrev mapping : Mapping Float
+mapping = a_map one three one three Linear
 
-abbrev speed_map : Float → Float → ClockSpeed → ClockSpeed → Easing → SpeedMapping
-speed_map a b c d e = record { in_lo = a; in_hi = b; out_lo = c; out_hi = d; easing = e }
+abbrev pub fixed : Value Float
+fixed = Fixed one
 
-abbrev pub fixed : FloatValue
-fixed = toFloat.Fixed one
-
-abbrev pub lfo : Waveform → FloatValue → FloatValue → FloatValue → Float → LfoBuilder
+abbrev pub lfo : Waveform → Value Float → Value Float → Value Float → Float → LfoBuilder
 lfo w f a o p = record { waveform = w; frequency = f; amplitude = a; offset = o; starting_phase = p }
 
 -- a parameter at this speed
-abbrev present : ClockSpeed → SpeedParameter
-present s = speeds.new_of (toSpeed.Fixed s) s
+abbrev present : ClockSpeed → Parameter ClockSpeed
+present s = new_of (Fixed s) s
 
 -- ---- the limits of one argument: f is the number that a call gives to it, the others being well
 
@@ -210,36 +203,36 @@ starts f = limit (f Immediate) 0 ∷ spans (λ n. f (Delayed n)) ++ fractions (�
 abbrev tweens : (Tween → ℕ) → List Limit
 tweens f = starts (λ s. f (tween_of s 0 Linear)) ++ spans (λ n. f (tween_of Immediate n Linear)) ++ easings (λ e. f (tween_of Immediate 0 e))
 
-abbrev float_maps : (FloatMapping → ℕ) → List Limit
+abbrev float_maps : (Mapping Float → ℕ) → List Limit
 float_maps f =
-    doubles (λ x. f (float_map x three one three Linear))
-    ++ doubles (λ x. f (float_map one x one three Linear))
-    ++ doubles (λ x. f (float_map one three x three Linear))
-    ++ doubles (λ x. f (float_map one three one x Linear))
-    ++ ranges (λ x y. f (float_map x y one three Linear))
-    ++ easings (λ e. f (float_map one three one three e))
+    doubles (λ x. f (a_map x three one three Linear))
+    ++ doubles (λ x. f (a_map one x one three Linear))
+    ++ doubles (λ x. f (a_map one three x three Linear))
+    ++ doubles (λ x. f (a_map one three one x Linear))
+    ++ ranges (λ x y. f (a_map x y one three Linear))
+    ++ easings (λ e. f (a_map one three one three e))
 
 -- BAD_SPEED, of two ends in two units: RULES, speed-mapping
-abbrev speed_maps : (SpeedMapping → ℕ) → List Limit
+abbrev speed_maps : (Mapping ClockSpeed → ℕ) → List Limit
 speed_maps f =
-    doubles (λ x. f (speed_map x three per_second per_second Linear))
-    ++ doubles (λ x. f (speed_map one x per_second per_second Linear))
-    ++ paces 0 (λ x. f (speed_map one three (TicksPerSecond x) per_second Linear))
-    ++ paces 0 (λ x. f (speed_map one three per_second (TicksPerSecond x) Linear))
-    ++ paces BAD_SPEED (λ x. f (speed_map one three (SecondsPerTick x) (SecondsPerTick one) Linear))
-    ++ paces BAD_SPEED (λ x. f (speed_map one three (SecondsPerTick one) (SecondsPerTick x) Linear))
-    ++ ranges (λ x y. f (speed_map x y per_second per_second Linear))
-    ++ easings (λ e. f (speed_map one three per_second per_second e))
-    ++ limit (f (speed_map one three per_second (TicksPerMinute one) Linear)) BAD_SPEED
-    ∷ limit (f (speed_map one three (SecondsPerTick one) per_second Linear)) BAD_SPEED
-    ∷ limit (f (speed_map one three (TicksPerMinute one) (SecondsPerTick one) Linear)) BAD_SPEED
+    doubles (λ x. f (a_map x three per_second per_second Linear))
+    ++ doubles (λ x. f (a_map one x per_second per_second Linear))
+    ++ paces 0 (λ x. f (a_map one three (TicksPerSecond x) per_second Linear))
+    ++ paces 0 (λ x. f (a_map one three per_second (TicksPerSecond x) Linear))
+    ++ paces BAD_SPEED (λ x. f (a_map one three (SecondsPerTick x) (SecondsPerTick one) Linear))
+    ++ paces BAD_SPEED (λ x. f (a_map one three (SecondsPerTick one) (SecondsPerTick x) Linear))
+    ++ ranges (λ x y. f (a_map x y per_second per_second Linear))
+    ++ easings (λ e. f (a_map one three per_second per_second e))
+    ++ limit (f (a_map one three per_second (TicksPerMinute one) Linear)) BAD_SPEED
+    ∷ limit (f (a_map one three (SecondsPerTick one) per_second Linear)) BAD_SPEED
+    ∷ limit (f (a_map one three (TicksPerMinute one) (SecondsPerTick one) Linear)) BAD_SPEED
     ∷ []
 
-abbrev float_values : (FloatValue → ℕ) → List Limit
-float_values f = doubles (λ x. f (toFloat.Fixed x)) ++ float_maps (λ m. f (toFloat.FromModulator source m))
+abbrev float_values : (Value Float → ℕ) → List Limit
+float_values f = doubles (λ x. f (Fixed x)) ++ float_maps (λ m. f (FromModulator source m))
 
-abbrev speed_values : (SpeedValue → ℕ) → List Limit
-speed_values f = speeds_at (λ s. f (toSpeed.Fixed s)) ++ speed_maps (λ m. f (toSpeed.FromModulator source m))
+abbrev speed_values : (Value ClockSpeed → ℕ) → List Limit
+speed_values f = speeds_at (λ s. f (Fixed s)) ++ speed_maps (λ m. f (FromModulator source m))
 
 -- ---- the table
 
@@ -247,10 +240,10 @@ speed_values f = speeds_at (λ s. f (toSpeed.Fixed s)) ++ speed_maps (λ m. f (t
 abbrev alone : List Limit
 alone =
     dts (λ x. first_fault (dt_faults x))
-    ++ speed_values (λ v. first_fault (speed_value_faults v))
+    ++ speed_values (λ v. first_fault (value_faults speed_tweens v))
     ++ fractions (λ g. number_told (try_when_to_start_of (info_in fresh_station) (fifth_at g)))
-    ++ float_values (λ v. number_told (try_raw_float_in (info_in fresh_station) v))
-    ++ speed_values (λ v. number_told (try_raw_speed_in (info_in fresh_station) v))
+    ++ float_values (λ v. number_told (try_raw_in float_tweens (info_in fresh_station) v))
+    ++ speed_values (λ v. number_told (try_raw_in speed_tweens (info_in fresh_station) v))
     ++ dts (λ x. number_told (try_update_start_in (info_in fresh_station) Immediate x))
     ++ starts (λ s. number_told (try_update_start_in (info_in fresh_station) s one))
 
@@ -265,19 +258,19 @@ readings f =
 -- a clock's speed, or a speed parameter, that is set
 abbrev speed_sets : List Limit
 speed_sets =
-    speed_values (λ v. first_fault (speeds.set_faults (present per_second) v tween))
-    ++ tweens (λ w. first_fault (speeds.set_faults (present per_second) (toSpeed.Fixed per_second) w))
-    ++ readings (λ s t. first_fault (speeds.set_faults (present s) (toSpeed.Fixed t) tween))
-    ++ readings (λ s t. first_fault (speeds.set_faults (present s) (toSpeed.FromModulator source (speed_map one three t t Linear)) tween))
-    ++ limit (first_fault (speeds.set_faults (present (TicksPerSecond (double 0x41a0_0000_0000_0000))) (toSpeed.Fixed per_second) tween)) 0
-    ∷ limit (first_fault (speeds.set_faults (present (TicksPerSecond (double 0x41a0_0000_0000_0001))) (toSpeed.Fixed per_second) tween)) BAD_SPEED
+    speed_values (λ v. first_fault (set_faults speed_tweens (present per_second) v tween))
+    ++ tweens (λ w. first_fault (set_faults speed_tweens (present per_second) (Fixed per_second) w))
+    ++ readings (λ s t. first_fault (set_faults speed_tweens (present s) (Fixed t) tween))
+    ++ readings (λ s t. first_fault (set_faults speed_tweens (present s) (FromModulator source (a_map one three t t Linear)) tween))
+    ++ limit (first_fault (set_faults speed_tweens (present (TicksPerSecond (double 0x41a0_0000_0000_0000))) (Fixed per_second) tween)) 0
+    ∷ limit (first_fault (set_faults speed_tweens (present (TicksPerSecond (double 0x41a0_0000_0000_0001))) (Fixed per_second) tween)) BAD_SPEED
     ∷ []
 
 -- a float parameter, or an LFO's, that is set
 abbrev float_sets : List Limit
 float_sets =
-    float_values (λ v. first_fault (floats.set_faults (floats.new_of fixed one) v tween))
-    ++ tweens (λ w. first_fault (floats.set_faults (floats.new_of fixed one) fixed w))
+    float_values (λ v. first_fault (set_faults float_tweens (new_of fixed one) v tween))
+    ++ tweens (λ w. first_fault (set_faults float_tweens (new_of fixed one) fixed w))
 
 -- a tweener that is set; an LFO's builder, its waveform and each of its four numbers
 abbrev modulators : List Limit
@@ -296,10 +289,10 @@ modulators =
 -- a parameter that is made
 abbrev made : List Limit
 made =
-    float_values (λ v. number_told (floats.try_new_of v one))
-    ++ doubles (λ x. number_told (floats.try_new_of fixed x))
-    ++ speed_values (λ v. number_told (speeds.try_new_of v per_second))
-    ++ speeds_at (λ s. number_told (speeds.try_new_of (toSpeed.Fixed per_second) s))
+    float_values (λ v. number_told (try_new_of float_tweens v one))
+    ++ doubles (λ x. number_told (try_new_of float_tweens fixed x))
+    ++ speed_values (λ v. number_told (try_new_of speed_tweens v per_second))
+    ++ speeds_at (λ s. number_told (try_new_of speed_tweens (Fixed per_second) s))
 
 -- speeds that are read or interpolated, and doubles that are interpolated
 abbrev speed_calls : List Limit
@@ -307,13 +300,13 @@ speed_calls =
     speeds_at (λ s. number_told (try_spt_of s))
     ++ speeds_at (λ s. number_told (try_tps_of s))
     ++ speeds_at (λ s. number_told (try_tpm_of s))
-    ++ speeds_at (λ s. number_told (try_interpolate_speed_of s per_second one))
-    ++ speeds_at (λ s. number_told (try_interpolate_speed_of per_second s one))
-    ++ doubles (λ x. number_told (try_interpolate_speed_of per_second per_second x))
-    ++ readings (λ s t. number_told (try_interpolate_speed_of s t one))
-    ++ doubles (λ x. number_told (try_interpolate_of x one one))
-    ++ doubles (λ x. number_told (try_interpolate_of one x one))
-    ++ doubles (λ x. number_told (try_interpolate_of one one x))
+    ++ speeds_at (λ s. number_told (try_interpolate_of speed_tweens s per_second one))
+    ++ speeds_at (λ s. number_told (try_interpolate_of speed_tweens per_second s one))
+    ++ doubles (λ x. number_told (try_interpolate_of speed_tweens per_second per_second x))
+    ++ readings (λ s t. number_told (try_interpolate_of speed_tweens s t one))
+    ++ doubles (λ x. number_told (try_interpolate_of float_tweens x one one))
+    ++ doubles (λ x. number_told (try_interpolate_of float_tweens one x one))
+    ++ doubles (λ x. number_told (try_interpolate_of float_tweens one one x))
 
 -- BAD_TIME, of a double with its sign bit set that is to be a time, TICKS_FULL and BEFORE_ZERO:
 -- RULES, time-from-double, ticks-full and before-zero
@@ -372,24 +365,24 @@ value_calls =
     ++ doubles (λ x. number_told (try_apply_of Linear x))
     ++ doubles (λ x. number_told (try_wave_value_of (Pulse x) one))
     ++ doubles (λ x. number_told (try_wave_value_of Triangle x))
-    ++ float_maps (λ m. number_told (try_map_float_of m one))
-    ++ doubles (λ x. number_told (try_map_float_of mapping x))
-    ++ speed_maps (λ m. number_told (try_map_speed_of m one))
-    ++ doubles (λ x. number_told (try_map_speed_of (speed_map one three per_second per_second Linear) x))
+    ++ float_maps (λ m. number_told (try_map_of float_tweens m one))
+    ++ doubles (λ x. number_told (try_map_of float_tweens mapping x))
+    ++ speed_maps (λ m. number_told (try_map_of speed_tweens m one))
+    ++ doubles (λ x. number_told (try_map_of speed_tweens (a_map one three per_second per_second Linear) x))
     ++ float_maps (λ m. number_told (try_map_output_of m op.Neg))
     ++ float_values (λ v. number_told (try_value_output_of v op.Neg))
-    ++ doubles (λ x. number_told (try_value_output_of (toFloat.Fixed (double 0)) (op.Add x)))
-    ++ doubles (λ x. number_told (try_value_output_of (toFloat.Fixed (double 0)) (op.Sub x)))
-    ++ doubles (λ x. number_told (try_value_output_of (toFloat.Fixed (double 0)) (op.Mul x)))
+    ++ doubles (λ x. number_told (try_value_output_of (Fixed (double 0)) (op.Add x)))
+    ++ doubles (λ x. number_told (try_value_output_of (Fixed (double 0)) (op.Sub x)))
+    ++ doubles (λ x. number_told (try_value_output_of (Fixed (double 0)) (op.Mul x)))
     ++ doubles (λ x. number_told (try_value_output_of fixed (op.Div x)))
     ++ doubles (λ x. number_told (try_value_output_of fixed (op.Rem x)))
-    ++ limit (number_told (try_value_output_of (toFloat.Fixed (double 0x4270_0000_0000_0000)) (op.Mul one))) 0
-    ∷ limit (number_told (try_value_output_of (toFloat.Fixed (double 0x4270_0000_0000_0000)) (op.Add one))) BAD_FLOAT
+    ++ limit (number_told (try_value_output_of (Fixed (double 0x4270_0000_0000_0000)) (op.Mul one))) 0
+    ∷ limit (number_told (try_value_output_of (Fixed (double 0x4270_0000_0000_0000)) (op.Add one))) BAD_FLOAT
     ∷ limit (number_told (try_value_output_of fixed (op.Div (double 0)))) BAD_FLOAT
     ∷ limit (number_told (try_value_output_of fixed (op.Rem (double 0)))) BAD_FLOAT
-    ∷ limit (number_told (try_map_output_of (float_map one three (double 0x4270_0000_0000_0000) one Linear) (op.Add one))) BAD_FLOAT
-    ∷ limit (number_told (try_map_output_of (float_map one three one (double 0x4270_0000_0000_0000) Linear) (op.Add one))) BAD_FLOAT
-    ∷ limit (number_told (try_map_output_of (float_map one three one (double 0x4270_0000_0000_0000) Linear) (op.Sub one))) 0
+    ∷ limit (number_told (try_map_output_of (a_map one three (double 0x4270_0000_0000_0000) one Linear) (op.Add one))) BAD_FLOAT
+    ∷ limit (number_told (try_map_output_of (a_map one three one (double 0x4270_0000_0000_0000) Linear) (op.Add one))) BAD_FLOAT
+    ∷ limit (number_told (try_map_output_of (a_map one three one (double 0x4270_0000_0000_0000) Linear) (op.Sub one))) 0
     ∷ []
 
 pub table : List Limit
@@ -398,5 +391,5 @@ table = alone ++ speed_sets ++ float_sets ++ modulators ++ made ++ speed_calls +
 -- The one claim. It shows that no argument is forgotten and no limit is moved in the definitions of arguments' faults,
 -- which `exactly` takes as they are. Between the rows it says nothing: there the definitions are read against RULES.
 pub limits : T (all table)
-unfolding all table number_of first_fault scaled of_bits add sub mul div rem neg lt le eq to_unsigned try_interpolate_of try_spt_of try_tps_of try_tpm_of try_interpolate_speed_of try_seconds_of try_update_of try_from_float_of try_add_ticks_of try_sub_ticks_of later_of earlier_of try_add_float_of try_sub_float_of try_order_of try_apply_of try_map_float_of try_map_speed_of try_map_output_of try_value_output_of try_wave_value_of try_when_to_start_of try_raw_float_in try_raw_speed_in floats.try_new_of speeds.try_new_of
+unfolding all table number_of first_fault scaled of_bits add sub mul div rem neg lt le eq to_unsigned try_interpolate_of try_spt_of try_tps_of try_tpm_of try_seconds_of try_update_of try_from_float_of try_add_ticks_of try_sub_ticks_of later_of earlier_of try_add_float_of try_sub_float_of try_order_of try_apply_of try_map_of try_map_output_of try_value_output_of try_wave_value_of try_when_to_start_of try_raw_in try_new_of
 limits = tt

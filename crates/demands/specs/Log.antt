@@ -12,7 +12,7 @@ use Rattle.station.specs.Stations.{fresh_station}
 use Rattle.station.specs.declared.Station.{Station}
 use Rattle.laws.specs.Calls.{Call, clock, modulator, frame, after_all, Kind, of_clock, of_modulator, lives, standing, Issued}
 use Rattle.demands.specs.Conditions.{is_tweener, is_lfo}
-use Rattle.demands.specs.Entries.{Entry, on_station, set_float, set_speed, update_float, update_speed, advance_float, advance_speed, report, when, read_float, read_speed, start_in, make_float, make_speed, shift}
+use Rattle.demands.specs.Entries.{Entry, on_station, on_float, on_speed, report, when, start_in, shift}
 
 -- ---- which id a call names
 
@@ -48,19 +48,11 @@ abbrev pub named_by : Entry → Named
 named_by (on_station (clock c)) = clock_named c
 named_by (on_station (modulator c)) = modulator_named c
 named_by (on_station (frame dt)) = no_id
-named_by (set_float v w) = no_id
-named_by (set_speed v w) = no_id
-named_by (update_float dt) = no_id
-named_by (update_speed dt) = no_id
-named_by (advance_float dt w i) = no_id
-named_by (advance_speed dt w i) = no_id
+named_by (on_float c) = no_id
+named_by (on_speed c) = no_id
 named_by (report id) = any_of of_clock id.slot id.generation
 named_by (when t) = no_id
-named_by (read_float v) = no_id
-named_by (read_speed v) = no_id
 named_by (start_in s dt) = no_id
-named_by (make_float v d) = no_id
-named_by (make_speed v d) = no_id
 named_by (shift t s) = no_id
 
 -- ---- what the numbers mean, in any station

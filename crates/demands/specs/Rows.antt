@@ -1,7 +1,7 @@
 -- 01, "Worked rows": the starred ones, two of them as document 02, Req 01, changes them, as one table with one claim.
 -- Each row is computed through the very definitions that the entries' contracts cite. Doubles are written by their
 -- bits. RULES, worked-rows. Assumes nothing.
-use Rattle.std.specs.Prelude.{ℕ, Bool, true, false, List, [], ◌∷◌, ◌++◌, T, eqb, Float}
+use Rattle.std.specs.Prelude.{ℕ, Bool, true, false, Option, Some, None, List, [], ◌∷◌, ◌++◌, T, eqb, Float}
 use Rattle.std.specs.Float.{binary64}
 use Rattle.std.specs.Float.Ieee.{of_bits, to_bits, add, sub, mul, div, rem, lt, le, eq, to_unsigned, of_int}
 use Rattle.doubles.specs.Doubles.{scaled}
@@ -17,23 +17,20 @@ use Rattle.values.specs.declared.clock_speed.ClockSpeed.TheVariants.{TicksPerSec
 use Rattle.times.specs.declared.start_time.StartTime.TheVariants.{Delayed}
 use Rattle.times.specs.declared.start_time.When.TheVariants.{Later}
 use Rattle.times.specs.Easings.{try_apply_of, apply_of, in_out_of, power_of, tween_value_of}
-use Rattle.values.specs.Values.{try_map_float_of, map_float_of, amount_of}
+use Rattle.values.specs.Tweenables.{float_tweens}
+use Rattle.values.specs.Values.{try_map_of, map_of, amount_of}
 use Rattle.waveform.specs.Waves.{try_wave_value_of, wave_value_of}
 use Rattle.times.specs.declared.tween.Easing.TheVariants.{Linear, InOutPowi}
-use Rattle.values.specs.declared.value.FloatValue.TheVariants as fixed
-use Rattle.values.specs.declared.value.SpeedValue.TheVariants as speed
-use Rattle.values.specs.declared.value.Input.TheVariants as input
+use Rattle.values.specs.declared.value.Value.TheVariants.{Fixed}
 use Rattle.waveform.specs.declared.Waveform.TheVariants.{Triangle}
 use Rattle.parameter.specs.Courses.{step_of}
-use Rattle.parameter.specs.FloatParameters.{new_of, try_set_of, try_update_of, update_of, tweened_of}
-use Rattle.parameter.specs.SpeedParameters as speeds
-use Rattle.parameter.specs.declared.float.FloatParameter.{FloatParameter}
+use Rattle.parameter.specs.Parameters.{new_of, try_set_of, try_update_of, update_of, tweened_of}
+use Rattle.parameter.specs.declared.Parameter.{Parameter}
 use Rattle.ids.specs.Keys.{free_of, lives_in, standing_of, find_of}
 use Rattle.ids.specs.Lists.{read_at}
 use Rattle.ticks.specs.WholeTicks.{room_for, taken_of}
 use Rattle.clock.specs.OneClock.{tick_of, update_clock_of}
 use Rattle.clock_table.specs.ClockTables.{add_clock_of, tick_on_of, clock_time_of}
-use Rattle.clock.specs.declared.Reported.{Reported}
 use Rattle.station.specs.Stations.{fresh_station, info_in}
 use Rattle.station.specs.Turns.{turn_clock}
 use Rattle.station.specs.Frames.{modulator_turns, modulators_turned, clock_turns, clocks_turned, frame_of}
@@ -99,10 +96,10 @@ per_minute x e = record { computed = told bits (try_tps_of (TicksPerMinute (floa
 
 -- input x of 0..10 to 100..200
 mapped : ℕ → List ℕ → Row
-unfolding told float bits try_map_float_of map_float_of amount_of apply_of
+unfolding told float bits try_map_of map_of amount_of apply_of
 mapped x e =
     record {
-      computed = told bits (try_map_float_of (record { in_lo = float 0; in_hi = float 0x4024_0000_0000_0000; out_lo = float 0x4059_0000_0000_0000; out_hi = float 0x4069_0000_0000_0000; easing = Linear }) (float x));
+      computed = told bits (try_map_of float_tweens (record { in_lo = float 0; in_hi = float 0x4024_0000_0000_0000; out_lo = float 0x4059_0000_0000_0000; out_hi = float 0x4069_0000_0000_0000; easing = Linear }) (float x));
       expected = e;
     }
 
@@ -117,12 +114,13 @@ triangle x e = record { computed = told bits (try_wave_value_of Triangle (float 
 -- a station with one clock at x ticks per second, started
 running : ℕ → Station
 unfolding float first
-running x = after_all fresh_station (clock (Add (speed.Fixed (TicksPerSecond (float x)))) ∷ clock (Start first) ∷ [])
+running x = after_all fresh_station (clock (Add (Fixed (TicksPerSecond (float x)))) ∷ clock (Start first) ∷ [])
 
 -- what the first slot reported: 1 and the tick, or 0
-reported : List Reported → List ℕ
+reported : List (Option ℕ) → List ℕ
 reported [] = []
-reported (r ∷ rs) = elim r.told [ true ↦ 1 ∷ r.tick ∷ [] | false ↦ 0 ∷ [] ]
+reported (Some n ∷ rs) = 1 ∷ n ∷ []
+reported (None ∷ rs) = 0 ∷ []
 
 -- what a clock at x reports in two frames of a second
 reports : ℕ → List ℕ → Row
@@ -145,15 +143,15 @@ stands x e = record {
 }
 
 -- one update by half a second
-next : FloatParameter → FloatParameter
+next : Parameter Float → Parameter Float
 unfolding float
-next p = (try_update_of p (float 0x3fe0_0000_0000_0000) Later input.None).parameter
+next p = (try_update_of float_tweens p (float 0x3fe0_0000_0000_0000) Later None).parameter
 
 -- delayed by 1 s, then in 1 s Linear from 0 to 8
-delayed : FloatParameter
+delayed : Parameter Float
 unfolding float
 delayed =
-    (try_set_of (new_of (fixed.Fixed (float 0)) (float 0)) (fixed.Fixed (float 0x4020_0000_0000_0000))
+    (try_set_of float_tweens (new_of (Fixed (float 0)) (float 0)) (Fixed (float 0x4020_0000_0000_0000))
     (record { start_time = Delayed 1_000_000_000; duration = 1_000_000_000; easing = Linear })).parameter
 
 values : List ℕ → Row
@@ -202,5 +200,5 @@ rows =
 
 -- the one claim
 pub worked : T (all rows)
-unfolding all rows number_of first_fault scaled add sub mul div rem lt le eq to_unsigned of_int nanos_of seconds_of apply_of tween_value_of step_of tweened_of update_of try_update_of try_set_of speeds.update_of speeds.tweened_of free_of lives_in standing_of find_of read_at room_for taken_of tick_of update_clock_of add_clock_of tick_on_of clock_time_of run_clock_of info_in turn_clock modulator_turns modulators_turned clock_turns clocks_turned frame_of after_all
+unfolding all rows number_of first_fault scaled add sub mul div rem lt le eq to_unsigned of_int nanos_of seconds_of apply_of tween_value_of step_of tweened_of update_of try_update_of try_set_of free_of lives_in standing_of find_of read_at room_for taken_of tick_of update_clock_of add_clock_of tick_on_of clock_time_of run_clock_of info_in turn_clock modulator_turns modulators_turned clock_turns clocks_turned frame_of after_all
 worked = tt

@@ -9,7 +9,12 @@ use Rattle.times.specs.declared.time.ClockId.{ClockId}
 use Rattle.times.specs.declared.time.ClockTime.{ClockTime}
 use Rattle.times.specs.declared.start_time.StartTime.TheVariants.{At}
 use Rattle.times.specs.declared.tween.Tween.{Tween}
+use Rattle.values.specs.Speeds.{speed_tweens}
+use Rattle.values.specs.Tweenables.{Tweens, float_tweens}
+use Rattle.values.specs.declared.value.Value.{Value}
 use Rattle.parameter.specs.Courses.{new_course}
+use Rattle.parameter.specs.Parameters.{try_set_of}
+use Rattle.parameter.specs.declared.Parameter.{Parameter}
 use Rattle.clock_table.specs.ClockTables.{clock_time_of}
 use Rattle.clock.specs.declared.Clock.{Clock}
 use Rattle.clock.specs.declared.ClockState.TheVariants.{NotStarted}
@@ -18,7 +23,7 @@ use Rattle.commands.specs.declared.clock_command.ClockCommand.TheVariants as com
 use Rattle.station.specs.declared.Station.{Station}
 use Rattle.laws.specs.Calls.{Call, clock, modulator, frame, after}
 use Rattle.laws.specs.SoundStation.{All}
-use Rattle.demands.specs.Kinds.{Kind, running, float_kind, speed_kind, course_of, course_by_sum, progress_of, progress_by_sums}
+use Rattle.demands.specs.Kinds.{running, course_of, course_by_sum, progress_of, progress_by_sums}
 use Rattle.demands.specs.Events.{Event, call, update, after_events, clock_in, advances_of, total, sums_from, in_order, dts_of, tests_of, first_pass, first_reach}
 
 -- ---- what is asked
@@ -88,25 +93,25 @@ pub record Stands (st : Station) (id : ClockId) (n : ℕ) : Type 0 where
 abbrev pub awaited : ClockId → ℕ → Float → ClockTime
 awaited id tick g = time_at id tick g
 
--- of a parameter with the tween w, which waits at time 0
-module _ (k : Kind) (st : Station) (id : ClockId) (es : List Event) (tick : ℕ) (g : Float) where
-  pub record Begins (p : k.Parameter) (w : Tween) : Type 0 where
+-- of a parameter of any kind with the tween w, which waits at time 0
+module _ {T : Type 0} (k : Tweens T) (st : Station) (id : ClockId) (es : List Event) (tick : ℕ) (g : Float) where
+  pub record Begins (p : Parameter T) (w : Tween) : Type 0 where
     -- every answer of its updates is the one that the sums lead to, the refused and those after its end too
     pub course : course_of k st p es ≡ course_by_sum k id (place_at tick g) 0 st p es
     -- it begins where the sum first reaches what it waits for: until then its time stands at 0, and from that update on
     -- each adds its dt: RULES, begins
-    pub times : progress_of k (course_of k st p es) ≡ progress_by_sums (place_at tick g) (running (new_course w)) (sums_from 0 (advances_of id st es)) (dts_of es)
+    pub times : progress_of (course_of k st p es) ≡ progress_by_sums (place_at tick g) (running (new_course w)) (sums_from 0 (advances_of id st es)) (dts_of es)
 
   -- a parameter of this kind, from any value, that an accepted set told to wait for that tick and fraction
   abbrev pub OnceSet : Type 0
   OnceSet =
-      (p : k.Parameter) (v : k.Value) (w : Tween) → w.start_time ≡ At (awaited id tick g) → k.set_refused p v w ≡ 0
-      → Begins (k.set_left p v w) w
+      (p : Parameter T) (v : Value T) (w : Tween) → w.start_time ≡ At (awaited id tick g) → (try_set_of k p v w).refused ≡ 0
+      → Begins (try_set_of k p v w).parameter w
 
 pub record Served (st : Station) (id : ClockId) (es : List Event) (tick : ℕ) (g : Float) : Type 0 where
   pub sum : Stands (after_events (started st id) es) id (total (advances_of id (started st id) es))
   -- the start test at each accepted update: whether the sum of the advances up to it reaches tick and fraction
   pub tests : tests_of (awaited id tick g) (started st id) es ≡ map (leb (place_at tick g)) (sums_from 0 (advances_of id (started st id) es))
   pub first : first_pass (tests_of (awaited id tick g) (started st id) es) ≡ first_reach (place_at tick g) (sums_from 0 (advances_of id (started st id) es))
-  pub floats : OnceSet float_kind (started st id) id es tick g
-  pub speeds : OnceSet speed_kind (started st id) id es tick g
+  pub floats : OnceSet float_tweens (started st id) id es tick g
+  pub speeds : OnceSet speed_tweens (started st id) id es tick g

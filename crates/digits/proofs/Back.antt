@@ -11,7 +11,7 @@ use lib.ListN.{get_or, get_or-append}
 use borrow.Author.Tests.{lt-ltb, le-ltb, le-leb}
 use Rattle.io.specs.Digits.{hex_digit_ascii, last_digits, IsDigitCount}
 use Rattle.text.specs.Numbers.{digit_of, number_from, hex16_of, decimal_of}
-use Rattle.text.specs.declared.Number.TheVariants.{Is}
+use Rattle.std.specs.Prelude.{Some}
 use Rattle.text.proofs.Digits.{decimal, letter, right_length, single, no_zero_first}
 use Rattle.digits.specs.Digits.{places_from, number_text, hex_text}
 use Rattle.digits.proofs.Places.{tens, fewest}
@@ -47,7 +47,7 @@ module _ (b : ℕ) (two : 1 < b) (sixteen : b ≤ 16) where
 
 -- ---- sixteen digits
 
-pub hex_back : (n : ℕ) → n < 2 ^ 64 → hex16_of (hex_text n) ≡ Is n
+pub hex_back : (n : ℕ) → n < 2 ^ 64 → hex16_of (hex_text n) ≡ Some n
 unfolding hex_text number_from
 hex_back n h =
     sym (right_length (hex_text n) (hex_length n))
@@ -63,11 +63,11 @@ first (suc k) n l u e =
     first k (n / 10) ((le-div_iff_mul-le {k = 10} (lit< tt)).1 (rw (← pow-suc 10 k) l)) ((div-lt_iff_lt-mul {k = 10} (lit< tt)).1 (rw (← pow-suc 10 (suc k)) u))
     (sym (get_or-append (last_digits 10 (suc k) (n / 10)) (hex_digit_ascii (n % 10) ∷ []) 0 0 (omega (arith, digits_length 10 (suc k) (n / 10)))) ∙ e)
 
-pub decimal_back : (n : ℕ) → n < 2 ^ 64 → decimal_of (number_text n) ≡ Is n
+pub decimal_back : (n : ℕ) → n < 2 ^ 64 → decimal_of (number_text n) ≡ Some n
 unfolding number_text number_from
 decimal_back n h = by (places_from n 1 n) (fewest n)
   where
-    by : (k : ℕ) → IsDigitCount 10 1 n k → decimal_of (last_digits 10 k n) ≡ Is n
+    by : (k : ℕ) → IsDigitCount 10 1 n k → decimal_of (last_digits 10 k n) ≡ Some n
     by k f = sym (front k f) ∙ ap (number_from 10 0) (sym (append-nil (last_digits 10 k n))) ∙ digits_back 10 (lit< tt) (omega arith) k n [] f.1 h
       where
         front : (k : ℕ) → IsDigitCount 10 1 n k → number_from 10 0 (last_digits 10 k n) ≡ decimal_of (last_digits 10 k n)

@@ -5,4 +5,5 @@ pub mod Places
 pub mod Lengths
 pub mod Back
 pub mod Pieces
+pub mod Outs
 pub mod Outcomes

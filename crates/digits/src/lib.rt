@@ -1,85 +1,103 @@
-// Text put into a buffer that the caller lends: bytes, and numbers as digits. Each function puts its text
-// from a place on, and answers the place behind it; a text of several pieces is put piece by piece, and a
-// piece that does not fit is left out. No function has a `requires`: each takes any buffer and any place.
+// Text put into a buffer that the caller lends: bytes, and numbers as digits. A text of several pieces is put piece by
+// piece, each behind the one before, and a piece that does not fit is left out. No function has a `requires`.
 #![tactic(auto)]
 
 ghost use Rattle.std.specs.Prelude.{◌≡◌, [], ◌∷◌};
 ghost use Rattle.digits.specs.Digits.{number_text, flag_text, float_text};
-ghost use Rattle.digits.specs.Puts.{place, put_of, put_all, line_end};
+ghost use Rattle.digits.specs.Puts.{line_end};
 
-// Puts bytes from a place on, where all of them fit; else nothing changes.
-pub fn put(out: &mut [u8], at: usize, bytes: &[u8]) -> usize
-    ensures { place out.new result ≡ put_of (place out.old at) bytes.now }
-{
-    if out.len() < at {
-        return at;
+// A lent buffer, and the place in it where the next text goes: any place, also one that the buffer does not have.
+#[derive(Drop)]
+pub struct Out<'a> {
+    pub bytes: &'a mut [u8],
+    pub at: usize,
+}
+
+impl<'a> Out<'a> {
+    ghost use Rattle.digits.specs.Outs.{put_in};
+
+    // The next text goes to the buffer's start.
+    pub fn new(bytes: &'a mut [u8]) -> Out<'a>
+        ensures { result ≡ record { bytes = bytes.entry; at = 0 } }
+    {
+        Out { bytes, at: 0 }
     }
-    if out.len() - at < bytes.len() {
-        return at;
+
+    // The place behind what was put.
+    pub fn place(&self) -> usize
+        ensures { result ≡ self.now.at }
+    {
+        self.at
     }
-    let mut i: usize = 0;
-    while i < bytes.len() {
-        out[at + i] = bytes[i];
-        i += 1;
+
+    // Puts bytes, where all of them fit; else nothing changes.
+    pub fn put(&mut self, bytes: &[u8])
+        ensures { self.new ≡ put_in self.old (bytes.now ∷ []) }
+    {
+        if self.bytes.len() < self.at {
+            return;
+        }
+        if self.bytes.len() - self.at < bytes.len() {
+            return;
+        }
+        let end = self.at + bytes.len();
+        self.bytes[self.at..end].copy_from_slice(bytes);
+        self.at = end;
     }
-    at + i
-}
 
-// A number, decimal, with no zero in front.
-pub fn number(out: &mut [u8], at: usize, n: u64) -> usize
-    ensures { place out.new result ≡ put_of (place out.old at) (number_text n) }
-{
-    let mut digits = [0u8; 20];
-    let count = io::decimal(n, &mut digits);
-    put(out, at, &digits[..count])
-}
-
-// A flag: 1 for true, 0 for false.
-pub fn flag(out: &mut [u8], at: usize, b: bool) -> usize
-    ensures { place out.new result ≡ put_of (place out.old at) (flag_text b) }
-{
-    if b {
-        return put(out, at, b"1");
+    // A number, decimal, with no zero in front.
+    pub fn number(&mut self, n: u64)
+        ensures { self.new ≡ put_in self.old (number_text n ∷ []) }
+    {
+        let mut digits = [0u8; 20];
+        let count = io::decimal(n, &mut digits);
+        self.put(&digits[..count]);
     }
-    put(out, at, b"0")
-}
 
-// A double's bits, in 16 hexadecimal digits.
-pub fn float(out: &mut [u8], at: usize, x: f64) -> usize
-    ensures { place out.new result ≡ put_of (place out.old at) (float_text x) }
-{
-    let mut digits = [0u8; 16];
-    let count = io::hex(doubles::bits(x), 16, &mut digits);
-    put(out, at, &digits[..count])
-}
+    // A flag: 1 for true, 0 for false.
+    pub fn flag(&mut self, b: bool)
+        ensures { self.new ≡ put_in self.old (flag_text b ∷ []) }
+    {
+        self.put(if b { b"1" } else { b"0" });
+    }
 
-// A word in front of a number.
-pub fn counted(out: &mut [u8], at: usize, name: &[u8], n: u64) -> usize
-    ensures { place out.new result ≡ put_all (place out.old at) (name.now ∷ number_text n ∷ []) }
-{
-    let behind = put(out, at, name);
-    number(out, behind, n)
-}
+    // A double's bits, in 16 hexadecimal digits.
+    pub fn float(&mut self, x: f64)
+        ensures { self.new ≡ put_in self.old (float_text x ∷ []) }
+    {
+        let mut digits = [0u8; 16];
+        let count = io::hex(doubles::bits(x), 16, &mut digits);
+        self.put(&digits[..count]);
+    }
 
-// A word in front of a flag.
-pub fn flagged(out: &mut [u8], at: usize, name: &[u8], b: bool) -> usize
-    ensures { place out.new result ≡ put_all (place out.old at) (name.now ∷ flag_text b ∷ []) }
-{
-    let behind = put(out, at, name);
-    flag(out, behind, b)
-}
+    // A word in front of a number.
+    pub fn counted(&mut self, name: &[u8], n: u64)
+        ensures { self.new ≡ put_in self.old (name.now ∷ number_text n ∷ []) }
+    {
+        self.put(name);
+        self.number(n);
+    }
 
-// A word in front of a double.
-pub fn named(out: &mut [u8], at: usize, name: &[u8], x: f64) -> usize
-    ensures { place out.new result ≡ put_all (place out.old at) (name.now ∷ float_text x ∷ []) }
-{
-    let behind = put(out, at, name);
-    float(out, behind, x)
-}
+    // A word in front of a flag.
+    pub fn flagged(&mut self, name: &[u8], b: bool)
+        ensures { self.new ≡ put_in self.old (name.now ∷ flag_text b ∷ []) }
+    {
+        self.put(name);
+        self.flag(b);
+    }
 
-// A line's end.
-pub fn end(out: &mut [u8], at: usize) -> usize
-    ensures { place out.new result ≡ put_of (place out.old at) line_end }
-{
-    put(out, at, b"\n")
+    // A word in front of a double.
+    pub fn named(&mut self, name: &[u8], x: f64)
+        ensures { self.new ≡ put_in self.old (name.now ∷ float_text x ∷ []) }
+    {
+        self.put(name);
+        self.float(x);
+    }
+
+    // A line's end.
+    pub fn end(&mut self)
+        ensures { self.new ≡ put_in self.old (line_end ∷ []) }
+    {
+        self.put(b"\n");
+    }
 }

@@ -1,51 +1,26 @@
 -- What the words of a line and the bytes of a word give. Assumes nothing.
-use Prim.Native.Nat.{ℕ, suc, ◌+◌, ◌-◌, ◌≤◌}
+use Prim.Native.Nat.{ℕ, suc, ◌+◌, ◌<◌, ◌≤◌}
 use native.Mathlib.Omega.{arith}
 use mathlib.Core.Path.{◌≡◌, refl, ap, ◌∙◌}
-use mathlib.Core.Bool.{Bool, true, false, ◌&&◌}
+use mathlib.Core.Bool.{Bool, true, false, cond}
 use mathlib.Core.List.{List, [], ◌∷◌}
-use borrow.Author.Tests.{eqb-true, eq-eqb, ne_eqb}
-use lib.Dec.{eqb}
-use lib.ListN.{length, take, drop, length-drop, drop_of_length-le}
-use lib.Seq.{take_all, drop-drop}
+use borrow.Author.Tests.{eq-eqb, ne_eqb, lt-ltb}
+use lib.Dec.{eqb, ltb}
+use Rattle.std.specs.Prelude.{Option, None, Some, position}
+use Rattle.std.specs.List.{prefix_len}
+use Rattle.text.proofs.Runs.{run_is}
+use native.Mathlib.Decide.{dec_lt}
+use lib.ListN.{length, take, drop, drop_of_length-le}
+use lib.Seq.{drop-drop}
 use Rattle.text.specs.Words.{run, blanks, word_at}
 use Rattle.text.specs.declared.Word.{Word}
 use Rattle.text.specs.Numbers.{decimal_of}
-use Rattle.grammar.specs.Grammar.{first_word, same_bytes, all_blanks, decimal32_of, no_colon, id_of, id_in}
-use Rattle.grammar.specs.declared.Number32.{Number32}
-use Rattle.grammar.specs.declared.Number32.TheVariants as number32
-use Rattle.grammar.specs.declared.IdAt.TheVariants as id
+use Rattle.grammar.specs.Grammar.{first_word, all_blanks, decimal32_of, no_colon, id_of, id_in}
 
 -- what holds of the word that the code found holds of the first word
 pub first : {A : Type 0} (s : List ℕ) (at : ℕ) (f : Word → A) {w : Word} {x : A} → w ≡ word_at s at → x ≡ f w → x ≡ first_word s at f
 unfolding first_word
 first s at f e p = p ∙ ap f e
-
--- ---- two lists that have the same bytes are one list
-
-same_is : (a b : List ℕ) → same_bytes a b ≡ true → a ≡ b
-unfolding same_bytes
-same_is [] [] e = refl
-same_is [] (b ∷ ys) e = cc
-same_is (a ∷ xs) [] e = cc
-same_is (a ∷ xs) (b ∷ ys) e = split (eqb a b) refl e (same_is xs ys)
-  where
-    split : (t : Bool) → eqb a b ≡ t → t && same_bytes xs ys ≡ true → (same_bytes xs ys ≡ true → xs ≡ ys) → ◌≡◌ {A = List ℕ} (a ∷ xs) (b ∷ ys)
-    split true h g f = cc (eqb-true a b h, f g)
-    split false h g f = cc
-
-same_self : (a : List ℕ) → same_bytes a a ≡ true
-unfolding same_bytes
-same_self [] = refl
-same_self (a ∷ xs) = rw (eq-eqb a a refl) (same_self xs)
-
-pub same_told : (r : Bool) (a b : List ℕ) → (r ≡ true → a ≡ b) × (a ≡ b → r ≡ true) → r ≡ same_bytes a b
-same_told true a b h = cc (h.0 refl, same_self a)
-same_told false a b h = unlike (same_bytes a b) refl
-  where
-    unlike : (t : Bool) → same_bytes a b ≡ t → false ≡ t
-    unlike true e = h.1 (same_is a b e)
-    unlike false e = refl
 
 -- ---- no word is left exactly where nothing but blanks is
 
@@ -67,14 +42,32 @@ blanks_left s at = rw (← (drop-drop (run (blanks true) (drop at s)) at s)) (no
 
 -- ---- an id has a colon
 
--- the bytes from a place on, as the code takes them
-pub onward : (p : List ℕ) (n : ℕ) → take (length p - n) (drop n p) ≡ drop n p
-onward p n = take_all (length p - n) (drop n p) (omega (arith, length-drop n p))
+unread : (slot : Option ℕ) (to : ℕ) → ◌≡◌ {A = Option (ℕ × ℕ × ℕ)} None (id_of slot None to)
+unread (Some n) to = refl
+unread None to = refl
 
-unread : (slot : Number32) (to : ℕ) → id.No ≡ id_of slot number32.No to
-unread (number32.Is n) to = refl
-unread number32.No to = refl
+-- what `position` answers of the first colon
+abbrev pub is_colon : ℕ → Bool
+is_colon b = eqb b 0x3a
 
-pub no_colon_lem : (p : List ℕ) (to : ℕ) → length p ≤ run no_colon p → id.No ≡ id_in p to
+pub found_colon : (p : List ℕ) (i : ℕ) → position is_colon p ≡ Some i → i ≡ run no_colon p
+found_colon p i e = by (ltb (prefix_len no_colon p) (length p)) e ∙ run_is no_colon p
+  where
+    by : (t : Bool) → cond t (Some (prefix_len no_colon p)) None ≡ Some i → i ≡ prefix_len no_colon p
+    by true e = cc
+    by false e = cc
+
+colon_missing : (p : List ℕ) → position is_colon p ≡ None → length p ≤ run no_colon p
+colon_missing p e = rw (← run_is no_colon p) (by (dec_lt (prefix_len no_colon p) (length p)))
+  where
+    by : Dec (prefix_len no_colon p < length p) → length p ≤ prefix_len no_colon p
+    by (yes a) = absurd (some (rw (lt-ltb _ _ a) at e))
+      where
+        some : Some (prefix_len no_colon p) ≡ None → ⊥
+        some e = cc
+    by (no a) = omega arith
+
+-- so there is no id where there is no colon
+pub no_colon_lem : (p : List ℕ) (to : ℕ) → position is_colon p ≡ None → None ≡ id_in p to
 unfolding id_in decimal32_of decimal_of
-no_colon_lem p to h = rw (drop_of_length-le p {i = run no_colon p + 1} (omega arith)) (unread (decimal32_of (take (run no_colon p) p)) to)
+no_colon_lem p to e = rw (drop_of_length-le p {i = run no_colon p + 1} (omega (arith, colon_missing p e))) (unread (decimal32_of (take (run no_colon p) p)) to)

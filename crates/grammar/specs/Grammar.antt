@@ -1,63 +1,33 @@
 -- The grammar of docs/BENCH.md: what stands at a place of a line, and the place behind it. A line is the list of its
 -- bytes. Assumes nothing.
-use Rattle.std.specs.Prelude.{ℕ, ◌+◌, Bool, true, false, cond, not, ◌&&◌, List, [], ◌∷◌, eqb, leb, Float, take, drop}
+use Rattle.std.specs.Prelude.{ℕ, ◌+◌, Bool, true, cond, not, ◌&&◌, List, [], ◌∷◌, Option, None, Some, eqb, leb, Float, length, take, drop}
 use Rattle.std.specs.Float.{binary64}
 use Rattle.std.specs.Float.Ieee.{of_bits}
 use Rattle.text.specs.Words.{run, word_at, part_of}
+pub use Rattle.text.specs.Words.{same_bytes}
 use Rattle.text.specs.Numbers.{hex16_of, decimal_of}
 use Rattle.text.specs.declared.Word.{Word}
-use Rattle.text.specs.declared.Number.{Number}
-use Rattle.text.specs.declared.Number.TheVariants as number
+use Rattle.text.specs.declared.words.Words.{Words}
 use Rattle.values.specs.declared.clock_speed.ClockSpeed.{ClockSpeed}
 use Rattle.values.specs.declared.clock_speed.ClockSpeed.TheVariants.{SecondsPerTick, TicksPerSecond, TicksPerMinute}
 use Rattle.times.specs.Times as times
+use Rattle.times.specs.declared.start_time.StartTime.{StartTime}
 use Rattle.times.specs.declared.start_time.StartTime.TheVariants.{Immediate, Delayed, At}
 use Rattle.times.specs.declared.time.ClockId.{ClockId}
 use Rattle.times.specs.declared.time.ClockTime.{ClockTime}
 use Rattle.times.specs.declared.tween.Easing.{Easing}
 use Rattle.times.specs.declared.tween.Easing.TheVariants.{Linear, InPowi, OutPowi, InOutPowi}
-use Rattle.values.specs.declared.value.FloatMapping.{FloatMapping}
-use Rattle.values.specs.declared.value.FloatValue.TheVariants.{Fixed, FromModulator}
+use Rattle.values.specs.declared.value.Mapping.{Mapping}
+use Rattle.values.specs.declared.value.Value.{Value}
+use Rattle.values.specs.declared.value.Value.TheVariants.{Fixed, FromModulator}
+use Rattle.waveform.specs.declared.Waveform.{Waveform}
 use Rattle.waveform.specs.declared.Waveform.TheVariants.{Triangle, Saw, Pulse}
-use Rattle.grammar.specs.declared.Number32.{Number32}
-use Rattle.grammar.specs.declared.Number32.TheVariants as number32
-use Rattle.grammar.specs.declared.FloatAt.{FloatAt}
-use Rattle.grammar.specs.declared.FloatAt.TheVariants as float
-use Rattle.grammar.specs.declared.NumberAt.{NumberAt}
-use Rattle.grammar.specs.declared.NumberAt.TheVariants as natural
-use Rattle.grammar.specs.declared.PowerAt.{PowerAt}
-use Rattle.grammar.specs.declared.PowerAt.TheVariants as power
-use Rattle.grammar.specs.declared.IdAt.{IdAt}
-use Rattle.grammar.specs.declared.IdAt.TheVariants as id
-use Rattle.grammar.specs.declared.SpeedAt.{SpeedAt}
-use Rattle.grammar.specs.declared.SpeedAt.TheVariants as speed
-use Rattle.grammar.specs.declared.EaseAt.{EaseAt}
-use Rattle.grammar.specs.declared.EaseAt.TheVariants as ease
-use Rattle.grammar.specs.declared.TimeAt.{TimeAt}
-use Rattle.grammar.specs.declared.TimeAt.TheVariants as time
-use Rattle.grammar.specs.declared.StartAt.{StartAt}
-use Rattle.grammar.specs.declared.StartAt.TheVariants as start
-use Rattle.grammar.specs.declared.FloatMapAt.{FloatMapAt}
-use Rattle.grammar.specs.declared.FloatMapAt.TheVariants as float_map
-use Rattle.grammar.specs.declared.SpeedMapAt.{SpeedMapAt}
-use Rattle.grammar.specs.declared.SpeedMapAt.TheVariants as speed_map
-use Rattle.grammar.specs.declared.FloatValueAt.{FloatValueAt}
-use Rattle.grammar.specs.declared.FloatValueAt.TheVariants as float_value
-use Rattle.grammar.specs.declared.WaveAt.{WaveAt}
-use Rattle.grammar.specs.declared.WaveAt.TheVariants as wave
 
 -- ---- words
 
 -- what the first word at a place or behind it gives
 unfoldable pub first_word : {A : Type 0} → List ℕ → ℕ → (Word → A) → A
 first_word s at f = f (word_at s at)
-
--- whether two words have the same bytes
-unfoldable pub same_bytes : List ℕ → List ℕ → Bool
-same_bytes [] [] = true
-same_bytes [] (b ∷ ys) = false
-same_bytes (a ∷ xs) [] = false
-same_bytes (a ∷ xs) (b ∷ ys) = eqb a b && same_bytes xs ys
 
 -- whether a word is the one named
 abbrev pub named : List ℕ → Word → List ℕ → Bool
@@ -117,171 +87,167 @@ abbrev pub «saw» : List ℕ
 abbrev pub «pul» : List ℕ
 «pul» = 0x70 ∷ 0x75 ∷ 0x6c ∷ []
 
+-- ---- what is read
+
+-- a thing of the grammar at a place of a line, and the place behind it; none where it does not stand there
+abbrev pub Read : Type 0 → Type 0
+Read A = Option (A × ℕ)
+
+-- what was read, with the place behind it
+abbrev pub at_place : {A : Type 0} → Option A → ℕ → Read A
+at_place (Some x) to = Some (x, to)
+at_place None to = None
+
+-- what is read, and the place behind it, go on to what is read next; where the one is none, the whole is none
+abbrev pub with_read : {A B : Type 0} → B → Read A → (A → ℕ → B) → B
+with_read none (Some (x, to)) next = next x to
+with_read none None next = none
+
 -- ---- numbers
 
 -- "F: 16 lower-case hex digits, a double's bits", "a NaN pattern on input is the one NaN"
-abbrev pub float_of : Number → ℕ → FloatAt
-float_of (number.Is bits) to = float.Is (of_bits binary64 bits) to
-float_of number.No to = float.No
+abbrev pub float_of : Option ℕ → ℕ → Read Float
+float_of (Some bits) to = Some (of_bits binary64 bits, to)
+float_of None to = None
 
-unfoldable pub float_at : List ℕ → ℕ → FloatAt
+unfoldable pub float_at : List ℕ → ℕ → Read Float
 float_at s at = first_word s at (λ w. float_of (hex16_of (part_of s w)) w.to)
 
 -- "N: decimal u64, no leading zeros anywhere", "NS: the same, nanoseconds"
-abbrev pub number_of : Number → ℕ → NumberAt
-number_of (number.Is n) to = natural.Is n to
-number_of number.No to = natural.No
-
-unfoldable pub number_at : List ℕ → ℕ → NumberAt
-number_at s at = first_word s at (λ w. number_of (decimal_of (part_of s w)) w.to)
+unfoldable pub number_at : List ℕ → ℕ → Read ℕ
+number_at s at = first_word s at (λ w. at_place (decimal_of (part_of s w)) w.to)
 
 -- "decimal, up to 4294967295"
-abbrev pub up_to32_bits : Number → Number32
-up_to32_bits (number.Is n) = cond (leb n 4294967295) (number32.Is n) number32.No
-up_to32_bits number.No = number32.No
+abbrev pub up_to32_bits : Option ℕ → Option ℕ
+up_to32_bits (Some n) = cond (leb n 4294967295) (Some n) None
+up_to32_bits None = None
 
-unfoldable pub decimal32_of : List ℕ → Number32
+unfoldable pub decimal32_of : List ℕ → Option ℕ
 decimal32_of p = up_to32_bits (decimal_of p)
 
 -- "a power over 2^32-1 is `error`"
-abbrev pub power_of : Number32 → ℕ → PowerAt
-power_of (number32.Is n) to = power.Is n to
-power_of number32.No to = power.No
-
-unfoldable pub power_at : List ℕ → ℕ → PowerAt
-power_at s at = first_word s at (λ w. power_of (decimal32_of (part_of s w)) w.to)
+unfoldable pub power_at : List ℕ → ℕ → Read ℕ
+power_at s at = first_word s at (λ w. at_place (decimal32_of (part_of s w)) w.to)
 
 -- "ID: SLOT:GENERATION, each decimal, up to 4294967295": what stands in a word before its first colon, and what stands
 -- behind it, which is nothing where there is no colon
 abbrev pub no_colon : ℕ → Bool
 no_colon b = not (eqb b 0x3a)
 
-abbrev pub id_of : Number32 → Number32 → ℕ → IdAt
-id_of (number32.Is slot) (number32.Is generation) to = id.Is slot generation to
-id_of (number32.Is slot) number32.No to = id.No
-id_of number32.No generation to = id.No
+abbrev pub id_of : Option ℕ → Option ℕ → ℕ → Option (ℕ × ℕ × ℕ)
+id_of (Some slot) (Some generation) to = Some (slot, generation, to)
+id_of (Some slot) None to = None
+id_of None generation to = None
 
-unfoldable pub id_in : List ℕ → ℕ → IdAt
+unfoldable pub id_in : List ℕ → ℕ → Option (ℕ × ℕ × ℕ)
 id_in p to = id_of (decimal32_of (take (run no_colon p) p)) (decimal32_of (drop (run no_colon p + 1) p)) to
 
-unfoldable pub id_at : List ℕ → ℕ → IdAt
+unfoldable pub id_at : List ℕ → ℕ → Option (ℕ × ℕ × ℕ)
 id_at s at = first_word s at (λ w. id_in (part_of s w) w.to)
+
+abbrev pub with_id : {A : Type 0} → A → Option (ℕ × ℕ × ℕ) → (ℕ → ℕ → ℕ → A) → A
+with_id none (Some (slot, generation, to)) next = next slot generation to
+with_id none None next = none
+
+-- an id's two numbers, with the place behind them
+abbrev pub id_behind : Option (ℕ × ℕ) → ℕ → Option (ℕ × ℕ × ℕ)
+id_behind (Some (slot, generation)) to = Some (slot, generation, to)
+id_behind None to = None
+
+-- what the reader of an id answers, and the words that it leaves
+abbrev pub id_left_by : Words → Option (ℕ × ℕ × ℕ) → Option (ℕ × ℕ) × Words
+id_left_by ws (Some (slot, generation, to)) = (Some (slot, generation), record ws { at = to })
+id_left_by ws None = (None, record ws { at = length ws.line.now })
 
 -- ---- one thing behind another
 
--- what is read, and the place behind it, go on to what is read next; where the one is none, the whole is none
-module _ {A : Type 0} (none : A) where
-  abbrev pub with_float : FloatAt → (Float → ℕ → A) → A
-  with_float (float.Is x to) next = next x to
-  with_float float.No next = none
-
-  abbrev pub with_number : NumberAt → (ℕ → ℕ → A) → A
-  with_number (natural.Is n to) next = next n to
-  with_number natural.No next = none
-
-  abbrev pub with_power : PowerAt → (ℕ → ℕ → A) → A
-  with_power (power.Is n to) next = next n to
-  with_power power.No next = none
-
-  abbrev pub with_id : IdAt → (ℕ → ℕ → ℕ → A) → A
-  with_id (id.Is slot generation to) next = next slot generation to
-  with_id id.No next = none
-
-  abbrev pub with_speed : SpeedAt → (ClockSpeed → ℕ → A) → A
-  with_speed (speed.Is x to) next = next x to
-  with_speed speed.No next = none
-
-  abbrev pub with_ease : EaseAt → (Easing → ℕ → A) → A
-  with_ease (ease.Is e to) next = next e to
-  with_ease ease.No next = none
-
-  abbrev pub with_time : TimeAt → (ClockTime → ℕ → A) → A
-  with_time (time.Is t to) next = next t to
-  with_time time.No next = none
-
-  abbrev pub with_float_map : FloatMapAt → (FloatMapping → ℕ → A) → A
-  with_float_map (float_map.Is m to) next = next m to
-  with_float_map float_map.No next = none
-
 -- "SPEED: spt F | tps F | tpm F"
-unfoldable pub speed_at : List ℕ → ℕ → SpeedAt
+unfoldable pub speed_at : List ℕ → ℕ → Read ClockSpeed
 speed_at s at =
     first_word s at (λ w.
-    with_float speed.No (float_at s w.to) (λ x to.
-    cond (named s w «spt») (speed.Is (SecondsPerTick x) to)
-    (cond (named s w «tps») (speed.Is (TicksPerSecond x) to)
-    (cond (named s w «tpm») (speed.Is (TicksPerMinute x) to) speed.No))))
+    with_read None (float_at s w.to) (λ x to.
+    cond (named s w «spt») (Some (SecondsPerTick x, to))
+    (cond (named s w «tps») (Some (TicksPerSecond x, to))
+    (cond (named s w «tpm») (Some (TicksPerMinute x, to)) None))))
 
 -- "EASE: lin | in N | out N | io N"
-unfoldable pub ease_at : List ℕ → ℕ → EaseAt
+unfoldable pub ease_at : List ℕ → ℕ → Read Easing
 ease_at s at =
     first_word s at (λ w.
-    cond (named s w «lin») (ease.Is Linear w.to)
-    (with_power ease.No (power_at s w.to) (λ n to.
-    cond (named s w «in») (ease.Is (InPowi n) to)
-    (cond (named s w «out») (ease.Is (OutPowi n) to)
-    (cond (named s w «io») (ease.Is (InOutPowi n) to) ease.No)))))
+    cond (named s w «lin») (Some (Linear, w.to))
+    (with_read None (power_at s w.to) (λ n to.
+    cond (named s w «in») (Some (InPowi n, to))
+    (cond (named s w «out») (Some (OutPowi n, to))
+    (cond (named s w «io») (Some (InOutPowi n, to)) None)))))
 
 -- "N F": a time of a clock
-unfoldable pub time_at : List ℕ → ℕ → ClockId → TimeAt
+unfoldable pub time_at : List ℕ → ℕ → ClockId → Read ClockTime
 time_at s at clock =
-    with_number time.No (number_at s at) (λ ticks a.
-    with_float time.No (float_at s a) (λ fraction to.
-    time.Is (times.time_at clock ticks fraction) to))
+    with_read None (number_at s at) (λ ticks a.
+    with_read None (float_at s a) (λ fraction to.
+    Some (times.time_at clock ticks fraction, to)))
 
 -- "ID N F": a clock and a time of it
-unfoldable pub clock_time_at : List ℕ → ℕ → TimeAt
+unfoldable pub clock_time_at : List ℕ → ℕ → Read ClockTime
 clock_time_at s at =
-    with_id time.No (id_at s at) (λ slot generation a.
+    with_id None (id_at s at) (λ slot generation a.
     time_at s a (record { slot = slot; generation = generation }))
 
 -- "del NS", behind its first word
-unfoldable pub delay_at : List ℕ → ℕ → StartAt
-delay_at s at = with_number start.No (number_at s at) (λ ns to. start.Is (Delayed ns) to)
+unfoldable pub delay_at : List ℕ → ℕ → Read StartTime
+delay_at s at = with_read None (number_at s at) (λ ns to. Some (Delayed ns, to))
 
 -- "START: imm | del NS | clk ID N F"
-unfoldable pub start_at : List ℕ → ℕ → StartAt
+unfoldable pub start_at : List ℕ → ℕ → Read StartTime
 start_at s at =
     first_word s at (λ w.
-    cond (named s w «imm») (start.Is Immediate w.to)
+    cond (named s w «imm») (Some (Immediate, w.to))
     (cond (named s w «del») (delay_at s w.to)
-    (cond (named s w «clk») (with_time start.No (clock_time_at s w.to) (λ t to. start.Is (At t) to)) start.No)))
+    (cond (named s w «clk») (with_read None (clock_time_at s w.to) (λ t to. Some (At t, to))) None)))
+
+-- ---- mappings and values, whose ends are read in one way: of doubles by F, of speeds by SPEED
+
+-- "F F END END EASE (in lo, in hi, out lo, out hi, easing)"
+unfoldable pub mapping_at : {A : Type 0} → (List ℕ → ℕ → Read A) → List ℕ → ℕ → Read (Mapping A)
+mapping_at end s at =
+    with_read None (float_at s at) (λ inLo a.
+    with_read None (float_at s a) (λ inHi b.
+    with_read None (end s b) (λ outLo c.
+    with_read None (end s c) (λ outHi d.
+    with_read None (ease_at s d) (λ easing to.
+    Some (record { in_lo = inLo; in_hi = inHi; out_lo = outLo; out_hi = outHi; easing = easing }, to))))))
 
 -- "FMAP: F F F F EASE (in lo, in hi, out lo, out hi, easing)"
-unfoldable pub float_map_at : List ℕ → ℕ → FloatMapAt
-float_map_at s at =
-    with_float float_map.No (float_at s at) (λ inLo a.
-    with_float float_map.No (float_at s a) (λ inHi b.
-    with_float float_map.No (float_at s b) (λ outLo c.
-    with_float float_map.No (float_at s c) (λ outHi d.
-    with_ease float_map.No (ease_at s d) (λ easing to.
-    float_map.Is (record { in_lo = inLo; in_hi = inHi; out_lo = outLo; out_hi = outHi; easing = easing }) to)))))
+abbrev pub float_map_at : List ℕ → ℕ → Read (Mapping Float)
+float_map_at = mapping_at float_at
 
 -- "SMAP: F F SPEED SPEED EASE (in lo, in hi, out lo, out hi, easing)"
-unfoldable pub speed_map_at : List ℕ → ℕ → SpeedMapAt
-speed_map_at s at =
-    with_float speed_map.No (float_at s at) (λ inLo a.
-    with_float speed_map.No (float_at s a) (λ inHi b.
-    with_speed speed_map.No (speed_at s b) (λ outLo c.
-    with_speed speed_map.No (speed_at s c) (λ outHi d.
-    with_ease speed_map.No (ease_at s d) (λ easing to.
-    speed_map.Is (record { in_lo = inLo; in_hi = inHi; out_lo = outLo; out_hi = outHi; easing = easing }) to)))))
+abbrev pub speed_map_at : List ℕ → ℕ → Read (Mapping ClockSpeed)
+speed_map_at = mapping_at speed_at
+
+-- "fix END | mod ID MAP"
+unfoldable pub value_at : {A : Type 0} → (List ℕ → ℕ → Read A) → List ℕ → ℕ → Read (Value A)
+value_at end s at =
+    first_word s at (λ w.
+    cond (named s w «fix») (with_read None (end s w.to) (λ x to. Some (Fixed x, to)))
+    (cond (named s w «mod»)
+    (with_id None (id_at s w.to) (λ slot generation a.
+    with_read None (mapping_at end s a) (λ m to.
+    Some (FromModulator (record { slot = slot; generation = generation }) m, to))))
+    None))
 
 -- "FVAL: fix F | mod ID FMAP"
-unfoldable pub float_value_at : List ℕ → ℕ → FloatValueAt
-float_value_at s at =
-    first_word s at (λ w.
-    cond (named s w «fix») (with_float float_value.No (float_at s w.to) (λ x to. float_value.Is (Fixed x) to))
-    (cond (named s w «mod»)
-    (with_id float_value.No (id_at s w.to) (λ slot generation a.
-    with_float_map float_value.No (float_map_at s a) (λ m to.
-    float_value.Is (FromModulator (record { slot = slot; generation = generation }) m) to)))
-    float_value.No))
+abbrev pub float_value_at : List ℕ → ℕ → Read (Value Float)
+float_value_at = value_at float_at
+
+-- "SVAL: fix SPEED | mod ID SMAP"
+abbrev pub speed_value_at : List ℕ → ℕ → Read (Value ClockSpeed)
+speed_value_at = value_at speed_at
 
 -- "WAVE: tri | saw | pul F"
-unfoldable pub wave_at : List ℕ → ℕ → WaveAt
+unfoldable pub wave_at : List ℕ → ℕ → Read Waveform
 wave_at s at =
     first_word s at (λ w.
-    cond (named s w «tri») (wave.Is Triangle w.to)
-    (cond (named s w «saw») (wave.Is Saw w.to)
-    (cond (named s w «pul») (with_float wave.No (float_at s w.to) (λ width to. wave.Is (Pulse width) to)) wave.No)))
+    cond (named s w «tri») (Some (Triangle, w.to))
+    (cond (named s w «saw») (Some (Saw, w.to))
+    (cond (named s w «pul») (with_read None (float_at s w.to) (λ width to. Some (Pulse width, to))) None)))

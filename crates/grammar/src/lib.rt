@@ -1,400 +1,256 @@
-// The grammar of docs/BENCH.md: each function reads one thing at a place of a line, and answers it with
-// the place behind it. No function has a `requires`: each takes any bytes and any place.
+// The grammar of docs/BENCH.md: each function reads one thing off the front of a line's words and leaves those
+// behind it, or none where the thing does not stand there. No function has a `requires`: each takes any words.
 #![tactic(auto)]
 
-ghost use Rattle.std.specs.Prelude.{◌≡◌};
-ghost use Rattle.text.specs.Words.{run};
-ghost use Rattle.grammar.specs.Grammar.{named, ended_at, float_at, number_at, decimal32_of, power_at, no_colon, id_in, id_at, speed_at, ease_at, time_at, clock_time_at, delay_at, start_at, float_map_at, speed_map_at, float_value_at, wave_at};
+ghost use Rattle.std.specs.Prelude.{◌≡◌, ℕ, List, Option};
+ghost use Rattle.std.specs.Bool.{then_some};
+ghost use Rattle.text.specs.Words.{same_bytes, read_of};
+ghost use Rattle.grammar.specs.Grammar.{ended_at, float_at, number_at, decimal32_of, power_at, id_in, id_at, id_behind, id_left_by, speed_at, ease_at, time_at, clock_time_at, delay_at, start_at, mapping_at, value_at, wave_at};
 
-use text::{Number, Word};
+use text::words::Words;
 use times::start_time::StartTime;
 use times::time::{ClockId, ClockTime, time_at};
 use times::tween::Easing;
 use values::clock_speed::ClockSpeed;
-use values::value::{FloatMapping, FloatValue, ModulatorId, SpeedMapping};
+use values::tweenable::Tweenable;
+use values::value::{Mapping, ModulatorId, Value};
 use waveform::Waveform;
 
-#[derive(Clone, Copy)]
-pub enum FloatAt {
-    Is(f64, usize),
-    No,
+// What a mapping's ends can be: how one is written in a line.
+pub trait Spelled: Tweenable {
+    ghost spelled: { List ℕ → ℕ → Option (Self × ℕ) };
+
+    fn read(words: &mut Words<'_>) -> Option<Self>
+        ensures { (result, words.new) ≡ read_of spelled words.old };
 }
 
-#[derive(Clone, Copy)]
-pub enum NumberAt {
-    Is(u64, usize),
-    No,
+impl Spelled for f64 {
+    ghost spelled = { float_at };
+
+    fn read(words: &mut Words<'_>) -> Option<f64> {
+        float(words)
+    }
 }
 
-// A number of up to 32 bits.
-#[derive(Clone, Copy)]
-enum Number32 {
-    Is(u32),
-    No,
-}
+impl Spelled for ClockSpeed {
+    ghost spelled = { speed_at };
 
-#[derive(Clone, Copy)]
-enum PowerAt {
-    Is(u32, usize),
-    No,
-}
-
-// Both kinds of id are written alike.
-#[derive(Clone, Copy)]
-pub enum IdAt {
-    Is(u32, u32, usize),
-    No,
-}
-
-#[derive(Clone, Copy)]
-pub enum SpeedAt {
-    Is(ClockSpeed, usize),
-    No,
-}
-
-#[derive(Clone, Copy)]
-pub enum EaseAt {
-    Is(Easing, usize),
-    No,
-}
-
-#[derive(Clone, Copy)]
-pub enum TimeAt {
-    Is(ClockTime, usize),
-    No,
-}
-
-#[derive(Clone, Copy)]
-pub enum StartAt {
-    Is(StartTime, usize),
-    No,
-}
-
-#[derive(Clone, Copy)]
-pub enum FloatMapAt {
-    Is(FloatMapping, usize),
-    No,
-}
-
-#[derive(Clone, Copy)]
-pub enum SpeedMapAt {
-    Is(SpeedMapping, usize),
-    No,
-}
-
-#[derive(Clone, Copy)]
-pub enum FloatValueAt {
-    Is(FloatValue, usize),
-    No,
-}
-
-#[derive(Clone, Copy)]
-pub enum WaveAt {
-    Is(Waveform, usize),
-    No,
+    fn read(words: &mut Words<'_>) -> Option<ClockSpeed> {
+        speed(words)
+    }
 }
 
 // Whether nothing but blanks is left.
-pub fn ended(line: &[u8], at: usize) -> bool
-    ensures { result ≡ ended_at line.now at }
+pub fn ended(words: &Words<'_>) -> bool
+    ensures { result ≡ ended_at words.now.line.now words.now.at }
 {
-    let w = text::next_word(line, at);
+    let w = text::next_word(words.line, words.at);
     w.from == w.to
 }
 
-// Whether a word is the one named.
-pub fn is(line: &[u8], w: Word, name: &[u8]) -> bool
-    ensures { result ≡ named line.now w name.now }
+// The end of a line: nothing but blanks is left.
+pub fn end(words: &Words<'_>) -> Option<()>
+    ensures { result ≡ then_some (ended_at words.now.line.now words.now.at) tt }
 {
-    check::same(text::part(line, w), name)
+    ended(words).then_some(())
+}
+
+// Whether a word is the one named. `==` by itself does not take the two, since a name is an array.
+pub fn is(word: &[u8], name: &[u8]) -> bool
+    ensures { result ≡ same_bytes word.now name.now }
+{
+    word == name
 }
 
 // A double, by its bits: F.
-pub fn float(line: &[u8], at: usize) -> FloatAt
-    ensures { result ≡ float_at line.now at }
+#[tactic(auto, unfolding(crate::specs::Grammar::first_word, crate::specs::Grammar::float_at))]
+pub fn float(words: &mut Words<'_>) -> Option<f64>
+    ensures { (result, words.new) ≡ read_of float_at words.old }
 {
-    let w = text::next_word(line, at);
-    let Number::Is(bits) = text::hex16(text::part(line, w)) else {
-        return FloatAt::No;
-    };
-    FloatAt::Is(doubles::of_bits(bits), w.to)
+    match text::hex16(words.next()) {
+        Some(bits) => Some(doubles::of_bits(bits)),
+        None => words.stop(),
+    }
 }
 
 // A number, or a time in nanoseconds: N, NS.
-pub fn number(line: &[u8], at: usize) -> NumberAt
-    ensures { result ≡ number_at line.now at }
+#[tactic(auto, unfolding(crate::specs::Grammar::first_word, crate::specs::Grammar::number_at))]
+pub fn number(words: &mut Words<'_>) -> Option<u64>
+    ensures { (result, words.new) ≡ read_of number_at words.old }
 {
-    let w = text::next_word(line, at);
-    let Number::Is(n) = text::decimal(text::part(line, w)) else {
-        return NumberAt::No;
-    };
-    NumberAt::Is(n, w.to)
+    match text::decimal(words.next()) {
+        Some(n) => Some(n),
+        None => words.stop(),
+    }
 }
 
 // The number of up to 32 bits that decimal digits spell.
-fn decimal32(s: &[u8]) -> Number32
+#[tactic(auto, unfolding(crate::specs::Grammar::decimal32_of))]
+fn decimal32(s: &[u8]) -> Option<u32>
     ensures { result ≡ decimal32_of s.now }
 {
-    let Number::Is(n) = text::decimal(s) else {
-        return Number32::No;
-    };
-    if n > 4294967295 {
-        return Number32::No;
-    }
-    Number32::Is(n as u32)
+    u32::try_from(text::decimal(s)?).ok()
 }
 
 // The power of an easing: N of up to 32 bits.
-fn power(line: &[u8], at: usize) -> PowerAt
-    ensures { result ≡ power_at line.now at }
+#[tactic(auto, unfolding(crate::specs::Grammar::first_word, crate::specs::Grammar::power_at))]
+fn power(words: &mut Words<'_>) -> Option<u32>
+    ensures { (result, words.new) ≡ read_of power_at words.old }
 {
-    let w = text::next_word(line, at);
-    let Number32::Is(n) = decimal32(text::part(line, w)) else {
-        return PowerAt::No;
-    };
-    PowerAt::Is(n, w.to)
-}
-
-// The place of the first colon; the length where there is none.
-fn colon(s: &[u8]) -> usize
-    ensures { result ≡ run no_colon s.now }
-{
-    let mut i: usize = 0;
-    while i < s.len() {
-        if s[i] == b':' {
-            return i;
-        }
-        i += 1;
+    match decimal32(words.next()) {
+        Some(n) => Some(n),
+        None => words.stop(),
     }
-    i
 }
 
 // The two numbers that a word has before and behind its first colon.
-fn id_in(p: &[u8], to: usize) -> IdAt
-    ensures { result ≡ id_in p.now to }
+fn id_in(word: &[u8]) -> Option<(u32, u32)>
+    ensures { (to : ℕ) → id_behind result to ≡ id_in word.now to }
 {
-    let i = colon(p);
-    if p.len() <= i {
-        return IdAt::No;
-    }
-    let Number32::Is(slot) = decimal32(&p[..i]) else {
-        return IdAt::No;
-    };
-    let behind = i + 1;
-    let Number32::Is(generation) = decimal32(&p[behind..]) else {
-        return IdAt::No;
-    };
-    IdAt::Is(slot, generation, to)
+    let i = word.iter().position(|&b| b == b':')?;
+    Some((decimal32(&word[..i])?, decimal32(&word[i + 1..])?))
 }
 
-// The id of a clock or of a modulator: ID.
-pub fn id(line: &[u8], at: usize) -> IdAt
-    ensures { result ≡ id_at line.now at }
+// The id of a clock or of a modulator, which are written alike: ID.
+#[tactic(auto, unfolding(crate::specs::Grammar::first_word, crate::specs::Grammar::id_at))]
+pub fn id(words: &mut Words<'_>) -> Option<(u32, u32)>
+    ensures { (result, words.new) ≡ id_left_by words.old (id_at words.old.line.now words.old.at) }
 {
-    let w = text::next_word(line, at);
-    id_in(text::part(line, w), w.to)
+    match id_in(words.next()) {
+        Some(numbers) => Some(numbers),
+        None => words.stop(),
+    }
 }
 
 // A unit and a number: SPEED.
-pub fn speed(line: &[u8], at: usize) -> SpeedAt
-    ensures { result ≡ speed_at line.now at }
+#[tactic(auto, unfolding(crate::specs::Grammar::first_word, crate::specs::Grammar::speed_at))]
+pub fn speed(words: &mut Words<'_>) -> Option<ClockSpeed>
+    ensures { (result, words.new) ≡ read_of speed_at words.old }
 {
-    let w = text::next_word(line, at);
-    let FloatAt::Is(x, to) = float(line, w.to) else {
-        return SpeedAt::No;
-    };
-    if is(line, w, b"spt") {
-        return SpeedAt::Is(ClockSpeed::SecondsPerTick(x), to);
+    let unit = words.next();
+    let x = float(words)?;
+    if is(unit, b"spt") {
+        return Some(ClockSpeed::SecondsPerTick(x));
     }
-    if is(line, w, b"tps") {
-        return SpeedAt::Is(ClockSpeed::TicksPerSecond(x), to);
+    if is(unit, b"tps") {
+        return Some(ClockSpeed::TicksPerSecond(x));
     }
-    if is(line, w, b"tpm") {
-        return SpeedAt::Is(ClockSpeed::TicksPerMinute(x), to);
+    if is(unit, b"tpm") {
+        return Some(ClockSpeed::TicksPerMinute(x));
     }
-    SpeedAt::No
+    words.stop()
 }
 
 // A kind of easing, and its power: EASE.
-pub fn ease(line: &[u8], at: usize) -> EaseAt
-    ensures { result ≡ ease_at line.now at }
+#[tactic(auto, unfolding(crate::specs::Grammar::first_word, crate::specs::Grammar::ease_at))]
+pub fn ease(words: &mut Words<'_>) -> Option<Easing>
+    ensures { (result, words.new) ≡ read_of ease_at words.old }
 {
-    let w = text::next_word(line, at);
-    if is(line, w, b"lin") {
-        return EaseAt::Is(Easing::Linear, w.to);
+    let kind = words.next();
+    if is(kind, b"lin") {
+        return Some(Easing::Linear);
     }
-    let PowerAt::Is(n, to) = power(line, w.to) else {
-        return EaseAt::No;
-    };
-    if is(line, w, b"in") {
-        return EaseAt::Is(Easing::InPowi(n), to);
+    let n = power(words)?;
+    if is(kind, b"in") {
+        return Some(Easing::InPowi(n));
     }
-    if is(line, w, b"out") {
-        return EaseAt::Is(Easing::OutPowi(n), to);
+    if is(kind, b"out") {
+        return Some(Easing::OutPowi(n));
     }
-    if is(line, w, b"io") {
-        return EaseAt::Is(Easing::InOutPowi(n), to);
+    if is(kind, b"io") {
+        return Some(Easing::InOutPowi(n));
     }
-    EaseAt::No
+    words.stop()
 }
 
 // A time of a clock: N F.
-pub fn time(line: &[u8], at: usize, clock: ClockId) -> TimeAt
-    ensures { result ≡ time_at line.now at clock }
+#[tactic(auto, unfolding(crate::specs::Grammar::time_at))]
+pub fn time(words: &mut Words<'_>, clock: ClockId) -> Option<ClockTime>
+    ensures { (result, words.new) ≡ read_of (λ s at. time_at s at clock) words.old }
 {
-    let NumberAt::Is(ticks, behind) = number(line, at) else {
-        return TimeAt::No;
-    };
-    let FloatAt::Is(fraction, to) = float(line, behind) else {
-        return TimeAt::No;
-    };
-    TimeAt::Is(time_at(clock, ticks, fraction), to)
+    Some(time_at(clock, number(words)?, float(words)?))
 }
 
 // A clock and a time of it: ID N F.
-pub fn clock_time(line: &[u8], at: usize) -> TimeAt
-    ensures { result ≡ clock_time_at line.now at }
+#[tactic(auto, unfolding(crate::specs::Grammar::clock_time_at))]
+pub fn clock_time(words: &mut Words<'_>) -> Option<ClockTime>
+    ensures { (result, words.new) ≡ read_of clock_time_at words.old }
 {
-    let IdAt::Is(slot, generation, behind) = id(line, at) else {
-        return TimeAt::No;
-    };
-    time(line, behind, ClockId { slot, generation })
+    let (slot, generation) = id(words)?;
+    time(words, ClockId { slot, generation })
 }
 
 // What stands behind `del`: NS.
-fn delay(line: &[u8], at: usize) -> StartAt
-    ensures { result ≡ delay_at line.now at }
+#[tactic(auto, unfolding(crate::specs::Grammar::delay_at))]
+fn delay(words: &mut Words<'_>) -> Option<StartTime>
+    ensures { (result, words.new) ≡ read_of delay_at words.old }
 {
-    let NumberAt::Is(ns, to) = number(line, at) else {
-        return StartAt::No;
-    };
-    StartAt::Is(StartTime::Delayed(ns), to)
+    Some(StartTime::Delayed(number(words)?))
 }
 
 // When a tween starts: START.
-pub fn start(line: &[u8], at: usize) -> StartAt
-    ensures { result ≡ start_at line.now at }
+#[tactic(auto, unfolding(crate::specs::Grammar::first_word, crate::specs::Grammar::start_at))]
+pub fn start(words: &mut Words<'_>) -> Option<StartTime>
+    ensures { (result, words.new) ≡ read_of start_at words.old }
 {
-    let w = text::next_word(line, at);
-    if is(line, w, b"imm") {
-        return StartAt::Is(StartTime::Immediate, w.to);
+    let kind = words.next();
+    if is(kind, b"imm") {
+        return Some(StartTime::Immediate);
     }
-    if is(line, w, b"del") {
-        return delay(line, w.to);
+    if is(kind, b"del") {
+        return delay(words);
     }
-    if !is(line, w, b"clk") {
-        return StartAt::No;
+    if is(kind, b"clk") {
+        return Some(StartTime::At(clock_time(words)?));
     }
-    let TimeAt::Is(t, to) = clock_time(line, w.to) else {
-        return StartAt::No;
-    };
-    StartAt::Is(StartTime::At(t), to)
+    words.stop()
 }
 
-// A mapping to doubles: FMAP.
-pub fn float_map(line: &[u8], at: usize) -> FloatMapAt
-    ensures { result ≡ float_map_at line.now at }
+// A mapping to doubles or to speeds: FMAP, SMAP.
+#[tactic(auto, unfolding(crate::specs::Grammar::mapping_at))]
+pub fn mapping<T: Spelled>(words: &mut Words<'_>) -> Option<Mapping<T>>
+    ensures { (result, words.new) ≡ read_of (mapping_at T.spelled) words.old }
 {
-    let FloatAt::Is(in_lo, a) = float(line, at) else {
-        return FloatMapAt::No;
-    };
-    let FloatAt::Is(in_hi, b) = float(line, a) else {
-        return FloatMapAt::No;
-    };
-    let FloatAt::Is(out_lo, c) = float(line, b) else {
-        return FloatMapAt::No;
-    };
-    let FloatAt::Is(out_hi, d) = float(line, c) else {
-        return FloatMapAt::No;
-    };
-    let EaseAt::Is(easing, to) = ease(line, d) else {
-        return FloatMapAt::No;
-    };
-    FloatMapAt::Is(
-        FloatMapping {
-            in_lo,
-            in_hi,
-            out_lo,
-            out_hi,
-            easing,
-        },
-        to,
-    )
+    Some(Mapping {
+        in_lo: float(words)?,
+        in_hi: float(words)?,
+        out_lo: T::read(words)?,
+        out_hi: T::read(words)?,
+        easing: ease(words)?,
+    })
 }
 
-// A mapping to speeds: SMAP.
-pub fn speed_map(line: &[u8], at: usize) -> SpeedMapAt
-    ensures { result ≡ speed_map_at line.now at }
+// A double or a speed that is fixed or a modulator's: FVAL, SVAL.
+#[tactic(auto, unfolding(crate::specs::Grammar::first_word, crate::specs::Grammar::value_at))]
+pub fn value<T: Spelled>(words: &mut Words<'_>) -> Option<Value<T>>
+    ensures { (result, words.new) ≡ read_of (value_at T.spelled) words.old }
 {
-    let FloatAt::Is(in_lo, a) = float(line, at) else {
-        return SpeedMapAt::No;
-    };
-    let FloatAt::Is(in_hi, b) = float(line, a) else {
-        return SpeedMapAt::No;
-    };
-    let SpeedAt::Is(out_lo, c) = speed(line, b) else {
-        return SpeedMapAt::No;
-    };
-    let SpeedAt::Is(out_hi, d) = speed(line, c) else {
-        return SpeedMapAt::No;
-    };
-    let EaseAt::Is(easing, to) = ease(line, d) else {
-        return SpeedMapAt::No;
-    };
-    SpeedMapAt::Is(
-        SpeedMapping {
-            in_lo,
-            in_hi,
-            out_lo,
-            out_hi,
-            easing,
-        },
-        to,
-    )
-}
-
-// A double that is fixed or a modulator's: FVAL.
-pub fn float_value(line: &[u8], at: usize) -> FloatValueAt
-    ensures { result ≡ float_value_at line.now at }
-{
-    let w = text::next_word(line, at);
-    if is(line, w, b"fix") {
-        let FloatAt::Is(x, to) = float(line, w.to) else {
-            return FloatValueAt::No;
-        };
-        return FloatValueAt::Is(FloatValue::Fixed(x), to);
+    let kind = words.next();
+    if is(kind, b"fix") {
+        return Some(Value::Fixed(T::read(words)?));
     }
-    if !is(line, w, b"mod") {
-        return FloatValueAt::No;
+    if !is(kind, b"mod") {
+        return words.stop();
     }
-    let IdAt::Is(slot, generation, behind) = id(line, w.to) else {
-        return FloatValueAt::No;
-    };
-    let FloatMapAt::Is(m, to) = float_map(line, behind) else {
-        return FloatValueAt::No;
-    };
-    FloatValueAt::Is(
-        FloatValue::FromModulator(ModulatorId { slot, generation }, m),
-        to,
-    )
+    let (slot, generation) = id(words)?;
+    let id = ModulatorId { slot, generation };
+    Some(Value::FromModulator(id, mapping(words)?))
 }
 
 // A waveform: WAVE.
-pub fn wave(line: &[u8], at: usize) -> WaveAt
-    ensures { result ≡ wave_at line.now at }
+#[tactic(auto, unfolding(crate::specs::Grammar::first_word, crate::specs::Grammar::wave_at))]
+pub fn wave(words: &mut Words<'_>) -> Option<Waveform>
+    ensures { (result, words.new) ≡ read_of wave_at words.old }
 {
-    let w = text::next_word(line, at);
-    if is(line, w, b"tri") {
-        return WaveAt::Is(Waveform::Triangle, w.to);
+    let kind = words.next();
+    if is(kind, b"tri") {
+        return Some(Waveform::Triangle);
     }
-    if is(line, w, b"saw") {
-        return WaveAt::Is(Waveform::Saw, w.to);
+    if is(kind, b"saw") {
+        return Some(Waveform::Saw);
     }
-    if !is(line, w, b"pul") {
-        return WaveAt::No;
+    if is(kind, b"pul") {
+        return Some(Waveform::Pulse(float(words)?));
     }
-    let FloatAt::Is(width, to) = float(line, w.to) else {
-        return WaveAt::No;
-    };
-    WaveAt::Is(Waveform::Pulse(width), to)
+    words.stop()
 }

@@ -11,11 +11,9 @@ use lib.Dec.{ltb, eqb}
 use borrow.Author.Tests.{ltb-true, ne_eqb}
 use Rattle.judge.specs.Answer.{Answer, accepted, refused}
 use Rattle.judge.specs.Numbers.{NO_ROOM}
-use Rattle.ids.specs.Keys.{is_free, Place, place, room_at, no_room, free_of, lives_in, was_given, gone, never_issued, standing_number, missing_of, standing_of, find_of, found_as, place_of, placed_as, used_at, generation_at}
+use Rattle.ids.specs.Keys.{is_free, room_at, no_room, free_of, lives_in, was_given, gone, never_issued, standing_number, missing_of, standing_of, find_of, used_at, generation_at}
 use Rattle.ids.specs.Lists.{read_at}
 use Rattle.ids.specs.declared.Key.{Key}
-use Rattle.ids.specs.declared.Found.{Found}
-use Rattle.ids.specs.declared.Placed.{Placed}
 
 -- ---- entries
 
@@ -102,11 +100,12 @@ pub record Finds (ks : List Key) (slot g i : ℕ) : Type 0 where
   pub same : i ≡ slot
   pub alive : lives_in ks slot g ≡ true
 
-module _ (ks : List Key) (slot g i : ℕ) (e : find_of ks slot g ≡ accepted i) where
+-- e is what `find` told
+module _ (ks : List Key) (slot g i : ℕ) (e : accepted i ≡ find_of ks slot g) where
   pub finds : Finds ks slot g i
   finds =
-      found_case ks slot g (λ w. w ≡ accepted i → Finds ks slot g i)
-      (λ n z l e. let z : ◌≡◌ {A = ℕ} 0 1 = cc in absurd (omega arith))
+      found_case ks slot g (λ w. accepted i ≡ w → Finds ks slot g i)
+      (λ n z l e. absurd (cc))
       (λ l e. record { same = cc; alive = l })
       e
 
@@ -132,7 +131,7 @@ record GivesFrom (ks : List Key) (n i g : ℕ) : Type 0 where
   at : i ≡ n + place
   gives : Gives ks place g
 
-free_key : (k : Key) → is_free k ≡ true → (k.used ≡ false) × (k.generation < 4294967295)
+pub free_key : (k : Key) → is_free k ≡ true → (k.used ≡ false) × (k.generation < 4294967295)
 free_key k f = go k.used refl f
   where
     go : (u : Bool) → k.used ≡ u → (not u && ltb k.generation 4294967295) ≡ true → (k.used ≡ false) × (k.generation < 4294967295)
@@ -177,7 +176,7 @@ gives_step k ks n i g false f e ih =
 
 gives_from : (ks : List Key) (n i g : ℕ) → free_of n ks ≡ room_at i g → GivesFrom ks n i g
 unfolding free_of
-gives_from [] n i g e = let z : ◌≡◌ {A = ℕ} 0 1 = cc in absurd (omega arith)
+gives_from [] n i g e = absurd (cc)
 gives_from (k ∷ ks) n i g e = gives_step k ks n i g (is_free k) refl e (gives_from ks (n + 1) i g)
 
 module _ (ks : List Key) (i g : ℕ) (e : free_of 0 ks ≡ room_at i g) where
@@ -193,7 +192,7 @@ module _ (ks : List Key) (i g : ℕ) (e : free_of 0 ks ≡ room_at i g) where
 none_step :
     (k : Key) (ks : List Key) (n : ℕ) (b : Bool) → is_free k ≡ b → cond b (room_at n (k.generation + 1)) (free_of (n + 1) ks) ≡ no_room
     → (is_free k ≡ false) × (free_of (n + 1) ks ≡ no_room)
-none_step k ks n true f e = let z : ◌≡◌ {A = ℕ} 0 1 = cc in absurd (omega arith)
+none_step k ks n true f e = absurd (cc)
 none_step k ks n false f e = (f, e)
 
 -- where a search gives nothing, no slot is free
@@ -207,55 +206,10 @@ none_free (k ∷ ks) n e (suc j) = none_free ks (n + 1) (none_step k ks n (is_fr
 refused_step :
     (k : Key) (ks : List Key) (i n : ℕ) (b : Bool) → (free_of (i + 1) ks ≡ refused n → n ≡ NO_ROOM)
     → cond b (room_at i (k.generation + 1)) (free_of (i + 1) ks) ≡ refused n → n ≡ NO_ROOM
-refused_step k ks i n true ih e = let z : ◌≡◌ {A = ℕ} 0 1 = cc in absurd (omega arith)
+refused_step k ks i n true ih e = absurd (cc)
 refused_step k ks i n false ih e = ih e
 
 pub room_number : (ks : List Key) (i n : ℕ) → free_of i ks ≡ refused n → n ≡ NO_ROOM
 unfolding free_of
 room_number [] i n e = cc
 room_number (k ∷ ks) i n e = refused_step k ks i n (is_free k) (room_number ks (i + 1) n) e
-
--- ---- what `find` answers
-
--- the id lives, in the slot that was answered
-pub record Living (ks : List Key) (slot g : ℕ) (r : Found) : Type 0 where
-  pub is : find_of ks slot g ≡ accepted slot
-  pub here : r.slot ≡ slot
-  pub inside : slot < 16
-
--- r is what `find` gave
-module _ (ks : List Key) (slot g : ℕ) (n : length ks ≡ 16) {r : Found} (e : r ≡ found_as (find_of ks slot g)) where
-  -- the slot is one of the 16, whether the id lives or not
-  pub some_slot : r.slot < 16
-  some_slot =
-      found_case ks slot g (λ w. r ≡ found_as w → r.slot < 16)
-      (λ n z l e. rw e (omega arith))
-      (λ l e. rw e (omega (arith, lives_inside ks slot g l)))
-      e
-
-  pub living : r.refused ≡ 0 → Living ks slot g r
-  living z =
-      found_case ks slot g (λ w. r ≡ found_as w → Living ks slot g r)
-      (λ n y l e. absurd (y (rw e at z)))
-      (λ l e. record { is = find_living ks slot g l; here = rw e; inside = omega (arith, lives_inside ks slot g l) })
-      e
-
-  pub missing : (r.refused ≡ 0 → ⊥) → find_of ks slot g ≡ refused r.refused
-  missing z =
-      found_case ks slot g (λ w. r ≡ found_as w → w ≡ refused r.refused)
-      (λ n y l e. rw e)
-      (λ l e. absurd (z (rw e)))
-      e
-
-  -- what the code reads beside the keys is what stands in the id's slot
-  pub living_read : r.refused ≡ 0 → {A B : Type 0} (none : B) (f : A → B) (l : List A) (d : A) → length l ≡ 16 → f (get_or l r.slot d) ≡ read_at none f l slot
-  living_read z none f l d m = let v : Living ks slot g r = living z in rw v.here (sym (read_at_lem none f l slot d (omega (arith, v.inside))))
-
--- the slot that an add stores into is one of the 16, whether there is room or not
-pub placed_below : (ks : List Key) (n : ℕ) {p : Placed} → length ks ≡ 16 → p ≡ placed_as ks (place_of n ks) → p.slot < 16
-placed_below ks n {p} m e = go (eqb n 0) (free_of 0 ks) refl e
-  where
-    go : (b : Bool) (w : Answer Place) → free_of 0 ks ≡ w → p ≡ placed_as ks (cond b w (refused n)) → p.slot < 16
-    go true (accepted (place i g)) f e = rw e (omega (arith, room_inside ks i g f, m))
-    go true (refused j) f e = rw e (omega arith)
-    go false w f e = rw e (omega arith)

@@ -50,9 +50,9 @@ module _ (ks : List Key) (i g : ℕ) where
       go :
           (b c : Bool) → lives_in ks i g ≡ b → was_given (generation_at ks i) g ≡ c → cond b living (cond c gone never_issued) ≡ gone
           → GivenOut ks i g × (lives_in ks i g ≡ false)
-      go true c l q e = let z : ◌≡◌ {A = ℕ} 0 1 = cc in absurd (omega arith)
+      go true c l q e = absurd (cc)
       go false true l q e = let h = given_by (generation_at ks i) g q in (record { least = h.0; most = h.1 }, l)
-      go false false l q e = let z : ◌≡◌ {A = ℕ} 0 1 = cc in absurd (omega arith)
+      go false false l q e = absurd (cc)
 
   -- one that was not given out and does not live was never issued
   pub ungiven_never : (GivenOut ks i g → ⊥) → lives_in ks i g ≡ false → standing_of ks i g ≡ never_issued

@@ -1,15 +1,12 @@
 -- Document 01, "Names that cannot be shared": slots, generations, and which ids live; 02, dead or never ours: what any
 -- other id is to a table. A table's keys are a list, a key for each slot. Assumes nothing.
-use Rattle.std.specs.Prelude.{ℕ, zero, suc, ◌+◌, ◌≤◌, Bool, true, false, not, ◌&&◌, cond, ◌≡◌, ◌⊎◌, List, [], ◌∷◌, get_or, set, ltb, eqb, leb}
+use Rattle.std.specs.Prelude.{ℕ, zero, suc, ◌+◌, ◌≤◌, Bool, true, false, not, ◌&&◌, cond, ◌≡◌, ◌⊎◌, List, [], ◌∷◌, set, ltb, eqb, leb, Option, Some, None}
 use Rattle.judge.specs.Answer.{Answer, accepted, refused}
 use Rattle.judge.specs.Judge.{decided}
 use Rattle.judge.specs.Numbers.{«GONE», NO_ROOM, NEVER_ISSUED}
 use Rattle.ids.specs.Lists.{read_at}
 use Rattle.ids.specs.declared.Key.{Key}
 use Rattle.ids.specs.declared.Room.{Room}
-use Rattle.ids.specs.declared.Room.TheVariants as room
-use Rattle.ids.specs.declared.Found.{Found}
-use Rattle.ids.specs.declared.Placed.{Placed}
 
 -- neither in use nor used up: RULES, retired-slot
 abbrev pub is_free : Key → Bool
@@ -26,9 +23,9 @@ room_at i g = accepted (place i g)
 abbrev pub no_room : Answer Place
 no_room = refused NO_ROOM
 
-abbrev pub told_room : Room → Answer Place
-told_room (room.At i g) = room_at i g
-told_room (room.Refused n) = refused n
+abbrev pub told_room : Option Room → Answer Place
+told_room (Some r) = room_at r.slot r.generation
+told_room None = no_room
 
 -- the slot that an add takes and the generation that it gives, of keys whose first has the number i:
 -- RULES, lowest-free-slot and generation
@@ -73,11 +70,6 @@ standing_number never_issued = NEVER_ISSUED
 unfoldable pub find_of : List Key → ℕ → ℕ → Answer ℕ
 find_of ks i g = decided (standing_number (standing_of ks i g)) (accepted i) refused
 
--- a lookup's answer with a slot in each case: the first one where the id lives in none
-abbrev pub found_as : Answer ℕ → Found
-found_as (accepted i) = record { refused = 0; slot = i }
-found_as (refused n) = record { refused = n; slot = 0 }
-
 -- a key as an accepted add leaves it
 abbrev pub taken_at : ℕ → Key
 taken_at g = record { used = true; generation = g }
@@ -85,19 +77,6 @@ taken_at g = record { used = true; generation = g }
 -- and as a removal leaves it: RULES, removal
 abbrev pub left_at : ℕ → Key
 left_at g = record { used = false; generation = g }
-
--- an add whose arguments have the number n; the search for a slot comes behind them: RULES, order
-abbrev pub place_of : ℕ → List Key → Answer Place
-place_of n ks = decided n (free_of 0 ks) refused
-
--- its place, with a slot and a key in each case: the first slot's, as it is, where there is none
-abbrev pub placed_as : List Key → Answer Place → Placed
-placed_as ks (accepted (place i g)) = record { refused = 0; slot = i; key = taken_at g }
-placed_as ks (refused n) = record { refused = n; slot = 0; key = get_or ks 0 (left_at 0) }
-
--- a key after a removal with the number n
-abbrev pub left_of : ℕ → Key → ℕ → Key
-left_of n k g = decided n (left_at g) (λ _. k)
 
 -- whether a slot is in use; none past the table's end is
 abbrev pub used_at : List Key → ℕ → Bool

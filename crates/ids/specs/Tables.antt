@@ -1,10 +1,11 @@
 -- What the calls on the two tables share, whatever a slot holds. A kind of table says how a table is taken apart and
 -- put together, what an id is, and in which form a call answers. Assumes nothing.
-use Rattle.std.specs.Prelude.{ℕ, List, set}
-use Rattle.judge.specs.Answer.{Answer, accepted, refused, is_refused}
+use Rattle.std.specs.Prelude.{ℕ, List, set, Result}
+use Rattle.judge.specs.Answer.{Answer, accepted, refused, is_refused, told, number_told}
 use Rattle.judge.specs.Judge.{of_add, number_of, decided}
 use Rattle.judge.specs.Numbers.{NEVER_ISSUED}
 use Rattle.judge.specs.declared.Faults.{Faults}
+use Rattle.judge.specs.declared.Refusal.{Refusal}
 use Rattle.ids.specs.Keys.{Place, place, free_of, find_of, taken_at, left_at}
 use Rattle.ids.specs.Lists.{read_at}
 use Rattle.ids.specs.declared.Key.{Key}
@@ -20,10 +21,22 @@ pub record Table (T E I D : Type 0) : Type 0 where
   -- 0 or the number of a refusal, beside the table
   pub done_as : ℕ → T → D
 
+-- 0 or the number of a refusal, beside the table
+pub record Done (T : Type 0) : Type 0 where
+  pub refused : ℕ
+  pub table : T
+
 -- what an add answers, beside the table
 pub record Added (T I : Type 0) : Type 0 where
   pub answer : Answer I
   pub table : T
+
+-- what a call's result and the table that it leaves say
+abbrev pub done : {A T : Type 0} → Result A Refusal → T → Done T
+done r t = record { refused = number_told (told r); table = t }
+
+abbrev pub added : {T I : Type 0} → Result I Refusal → T → Added T I
+added r t = record { answer = told r; table = t }
 
 -- what f makes of the entry in the slot that was found; `none` of the number, where none was. A slot past the last
 -- entry was never given

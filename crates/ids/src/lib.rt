@@ -3,153 +3,94 @@
 
 #![tactic(auto)]
 
-ghost use Rattle.std.specs.Prelude.{◌≡◌};
-ghost use Rattle.judge.specs.Answer.{refused, number_told};
-ghost use Rattle.ids.specs.Keys.{told_room, free_of, missing_of, standing_number, found_as, find_of, placed_as, place_of, left_of};
+ghost use Rattle.std.specs.Prelude.{◌≡◌, position};
+ghost use Rattle.judge.specs.Answer.{told, number_of_refusal};
+ghost use Rattle.ids.specs.Keys.{told_room, is_free, free_of, missing_of, standing_number, find_of, taken_at, left_at};
 
-use judge::{GONE, NEVER_ISSUED, NO_ROOM};
+use judge::Refusal;
 
 // The last generation. A slot that is freed at it is retired.
-const LAST: u32 = 4294967295;
+const LAST: u32 = u32::MAX;
 
-// `generation` is the last one given, and 0 where none was.
-#[derive(Clone, Copy)]
+// `generation` is the last one given, and 0 where none was. A slot that is left keeps it, so an Option of it would be
+// no plainer than the two fields.
+#[derive(Clone, Copy, PartialEq, Eq)]
 pub struct Key {
     pub used: bool,
     pub generation: u32,
 }
 
-// The slot to take and the generation to give it, or the number that an add is refused with.
-#[derive(Clone, Copy)]
-pub enum Room {
-    At(usize, u32),
-    Refused(u32),
-}
-
-// The slot where an id lives, and 0; or slot 0, and the number that a call on the id is refused with, GONE or
-// NEVER_ISSUED. So there is always a slot to read, and what was read can be stored back.
-#[derive(Clone, Copy)]
-pub struct Found {
-    pub refused: u32,
-    pub slot: usize,
-}
-
-// Where an add goes: the slot, its key then, and 0; or slot 0, its key as it is, and the number of the refusal.
-#[derive(Clone, Copy)]
-pub struct Placed {
-    pub refused: u32,
-    pub slot: usize,
-    pub key: Key,
-}
-
-// The lowest slot that is neither occupied nor retired.
-pub fn free(keys: [Key; 16]) -> Room
-    ensures { told_room result ≡ free_of 0 keys }
-{
-    let mut i: usize = 0;
-    while i < 16 {
-        let k = keys[i];
-        if !k.used {
-            if k.generation < LAST {
-                return Room::At(i, k.generation + 1);
-            }
-        }
-        i += 1;
-    }
-    Room::Refused(NO_ROOM)
-}
-
-// The number of an id that does not live: GONE where its slot, which stands at `last`, has given its generation.
-fn missing(last: u32, generation: u32) -> u32
-    ensures { result ≡ standing_number (missing_of last generation) }
-{
-    if generation == 0 {
-        return NEVER_ISSUED;
-    }
-    if generation <= last {
-        return GONE;
-    }
-    NEVER_ISSUED
-}
-
-// What an id is to a table. Every call by an id asks it here, and carries the number.
-pub fn find(keys: [Key; 16], slot: u32, generation: u32) -> Found
-    ensures { result ≡ found_as (find_of keys slot generation) }
-{
-    let i = slot as usize;
-    if i >= 16 {
-        return Found {
-            refused: NEVER_ISSUED,
-            slot: 0,
-        };
-    }
-    let k = keys[i];
-    if k.used {
-        if k.generation == generation {
-            return Found {
-                refused: 0,
-                slot: i,
-            };
-        }
-    }
-    Found {
-        refused: missing(k.generation, generation),
-        slot: 0,
-    }
-}
-
-// The number that a search answers with, 0 where it found a slot.
-fn refusal(r: Room) -> u32
-    ensures { result ≡ number_told (told_room r) }
-{
-    match r {
-        Room::At(_, _) => 0,
-        Room::Refused(n) => n,
-    }
-}
-
-// No place, by the number n.
-fn unplaced(keys: [Key; 16], n: u32) -> Placed
-    ensures { result ≡ placed_as keys (refused n) }
-{
-    let key = keys[0];
-    Placed {
-        refused: n,
-        slot: 0,
-        key,
-    }
-}
-
-// Where an add goes whose arguments have the number n: a number behind the arguments' is asked after them.
-pub fn place(keys: [Key; 16], n: u32) -> Placed
-    ensures { result ≡ placed_as keys (place_of n keys) }
-{
-    if n != 0 {
-        return unplaced(keys, n);
-    }
-    let room = free(keys);
-    let Room::At(slot, generation) = room else {
-        return unplaced(keys, refusal(room));
-    };
-    Placed {
-        refused: 0,
-        slot,
-        key: Key {
+impl Key {
+    // The key of a slot that an add has taken.
+    pub fn taken(generation: u32) -> Key
+        ensures { result ≡ taken_at generation }
+    {
+        Key {
             used: true,
             generation,
-        },
+        }
+    }
+
+    // The key of a slot that a removal has left, and at generation 0 that of one that was never taken.
+    pub fn left(generation: u32) -> Key
+        ensures { result ≡ left_at generation }
+    {
+        Key {
+            used: false,
+            generation,
+        }
     }
 }
 
-// The key of a slot after a removal with the number n, of a generation.
-pub fn left(n: u32, key: Key, generation: u32) -> Key
-    ensures { result ≡ left_of n key generation }
+// The slot for an add to take, and the generation to give it.
+#[derive(Clone, Copy)]
+pub struct Room {
+    pub slot: usize,
+    pub generation: u32,
+}
+
+// The lowest slot that is neither occupied nor retired, where there is one.
+fn open(keys: &[Key; 16]) -> Option<usize>
+    ensures { result ≡ position is_free keys.now }
 {
-    if n != 0 {
-        return key;
+    keys.iter()
+        .position(|key| !key.used && key.generation < LAST)
+}
+
+// The slot for an add, the lowest open one, and the generation after its last; none where there is no room.
+pub fn free(keys: &[Key; 16]) -> Option<Room>
+    ensures { told_room result ≡ free_of 0 keys.now }
+{
+    let slot = open(keys)?;
+    Some(Room {
+        slot,
+        generation: keys[slot].generation + 1,
+    })
+}
+
+// The refusal of an id that does not live: Gone where its slot, which stands at `last`, has given its generation.
+fn missing(last: u32, generation: u32) -> Refusal
+    ensures { number_of_refusal result ≡ standing_number (missing_of last generation) }
+{
+    if generation == 0 {
+        return Refusal::NeverIssued;
     }
-    Key {
-        used: false,
-        generation,
+    if generation <= last {
+        return Refusal::Gone;
     }
+    Refusal::NeverIssued
+}
+
+// The slot where an id lives. Every call by an id asks for it here.
+pub fn find(keys: &[Key; 16], slot: u32, generation: u32) -> Result<usize, Refusal>
+    ensures { told result ≡ find_of keys.now slot generation }
+{
+    let i = slot as usize;
+    let Some(key) = keys.get(i) else {
+        return Err(Refusal::NeverIssued);
+    };
+    if *key == Key::taken(generation) {
+        return Ok(i);
+    }
+    Err(missing(key.generation, generation))
 }

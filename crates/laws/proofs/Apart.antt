@@ -21,7 +21,7 @@ module _ (ks : List Key) (j h : ℕ) (l : lives_in ks j h ≡ true) where
   slots_apart i g m n p = n p (sym (names.living ks j h l).agrees ∙ (rw (sym p) at (names.living ks i g m).agrees))
 
   -- an add takes no slot in which an id lives
-  slot_taken : (i g : ℕ) → free_of 0 ks ≡ room_at i g → j ≡ i → ⊥
+  pub slot_taken : (i g : ℕ) → free_of 0 ks ≡ room_at i g → j ≡ i → ⊥
   slot_taken i g e p = false≢true (sym (gives ks i g e).empty ∙ (rw p at (names.living ks j h l).occupied))
 
 -- ---- entries

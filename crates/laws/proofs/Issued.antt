@@ -2,7 +2,6 @@
 -- gone stays so; in a station that calls reached from a fresh one, an id that no call gave out was never issued. 02,
 -- dead or never ours. RULES, issued. `issued_known` stands for a reader: no proof cites it. Assumes nothing.
 use Prim.Native.Nat.{ℕ}
-use native.Mathlib.Omega.{arith}
 use mathlib.Core.Path.{◌≡◌, refl}
 use mathlib.Core.Bool.{Bool, true, false}
 use mathlib.Core.Logic.{◌⊎◌, inl, inr}
@@ -109,5 +108,5 @@ module _ (k : Kind) (i g : ℕ) where
     never_unissued e x = go (standings.given_known (keys_of k (after_all fresh_station cs)) i g (issued_given fresh_station cs x))
       where
         go : (standing k (after_all fresh_station cs) i g ≡ living) ⊎ (standing k (after_all fresh_station cs) i g ≡ gone) → ⊥
-        go (inl p) = let z : ◌≡◌ {A = ℕ} 0 1 = cc in omega arith
-        go (inr p) = let z : ◌≡◌ {A = ℕ} 0 1 = cc in omega arith
+        go (inl p) = cc
+        go (inr p) = cc

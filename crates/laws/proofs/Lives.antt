@@ -2,25 +2,22 @@
 -- generation 0 never lives. `named_new`, `named_lives`, `two_names` and `zero_never` stand for a reader: no proof cites
 -- them. RULES, apart. Assumes nothing.
 use Prim.Native.Nat.{ℕ}
-use native.Mathlib.Omega.{arith}
 use mathlib.Core.Path.{◌≡◌, refl, sym, ◌∙◌}
 use mathlib.Core.Bool.{true, false}
 use mathlib.Core.List.{List, [], ◌∷◌}
 use lib.ListN.{set}
 use lib.Ieee.{Float}
 use Rattle.ids.specs.Keys.{room_at, free_of, taken_at, Spent, Numbered, Later, same, added, removed}
-use Rattle.ids.specs.Tables.{freed, on_found, refused_call}
+use Rattle.ids.specs.Tables.{freed}
 use Rattle.ids.specs.declared.Key.{Key}
 use Rattle.judge.specs.Answer.{number_told}
-use Rattle.judge.specs.Numbers.{NEVER_ISSUED}
 use Rattle.ids.proofs.Names as names
-use Rattle.ids.proofs.Places.{found_case}
 use Rattle.times.specs.declared.time.ClockId.{ClockId}
 use Rattle.values.specs.declared.value.ModulatorId.{ModulatorId}
 use Rattle.clock_table.specs.ClockTables as clocks
-use Rattle.clock_table.specs.declared.ClockDone.{ClockDone}
+use Rattle.clock_table.specs.ClockTables.{ClockDone}
 use Rattle.modulator_table.specs.ModulatorTables as modulators
-use Rattle.modulator_table.specs.declared.ModulatorDone.{ModulatorDone}
+use Rattle.modulator_table.specs.ModulatorTables.{ModulatorDone}
 use Rattle.commands.specs.ClockCommands as clockRuns
 use Rattle.commands.specs.ClockCommands.{run_clock_of}
 use Rattle.commands.specs.ModulatorCommands as modulatorRuns
@@ -31,7 +28,8 @@ use Rattle.station.specs.Stations.{fresh_station}
 use Rattle.station.specs.declared.Station.{Station}
 use Rattle.laws.specs.Calls.{Call, clock, modulator, frame, after, after_all, Kind, of_clock, of_modulator, keys_of, lives, Told, named, told, call_number, Target, all}
 use Rattle.laws.proofs.Refusals.{told_number}
-use Rattle.laws.proofs.lemmas.Deeds.{Deed, leaves, changes, removes, adds, turns, deed, read_case}
+use Rattle.laws.proofs.lemmas.Cases.{found_lem}
+use Rattle.laws.proofs.lemmas.Deeds.{Deed, leaves, changes, removes, adds, turns, deed}
 
 -- ---- one call
 
@@ -55,16 +53,16 @@ module _ {A : Type 0} {k : Kind} {ks : List Key} {es : List A} where
 
   deed_took : {ls : List Key} {fs : List A} {a : Target} {o : Told} → Deed k ks es a o ls fs → (i g : ℕ) → o ≡ named k i g → Took ks ls i g
   deed_took (leaves a o u) i g e = absurd (u i g e)
-  deed_took (changes j h x l) i g e = let z : ◌≡◌ {A = ℕ} 0 1 = cc in absurd (omega arith)
-  deed_took (removes j h l) i g e = let z : ◌≡◌ {A = ℕ} 0 1 = cc in absurd (omega arith)
+  deed_took (changes j h x l) i g e = absurd (cc)
+  deed_took (removes j h l) i g e = absurd (cc)
   deed_took (adds j h x f) i g e = record { room = cc; keys = cc }
-  deed_took (turns fs) i g e = let z : ◌≡◌ {A = ℕ} 0 1 = cc in absurd (omega arith)
+  deed_took (turns fs) i g e = absurd (cc)
 
   deed_turned : {ls : List Key} {fs : List A} {a : Target} {o : Told} → Deed k ks es a o ls fs → a ≡ all → ls ≡ ks
   deed_turned (leaves a o u) e = refl
   deed_turned (changes i g x l) e = refl
-  deed_turned (removes i g l) e = let z : ◌≡◌ {A = ℕ} 0 1 = cc in absurd (omega arith)
-  deed_turned (adds i g x f) e = let z : ◌≡◌ {A = ℕ} 0 1 = cc in absurd (omega arith)
+  deed_turned (removes i g l) e = absurd (cc)
+  deed_turned (adds i g x f) e = absurd (cc)
   deed_turned (turns fs) e = refl
 
 module _ (k : Kind) (st : Station) where
@@ -94,34 +92,22 @@ module _ (st : Station) where
       → (lives of_clock st id.slot id.generation ≡ true) × Spent (keys_of of_clock (after st (clock (clockCommand.Remove id)))) id.slot id.generation
   unfolding run_clock_of clocks.remove_of
   clock_removed id =
-      found_case st.clocks.keys id.slot id.generation (λ w. Ended (on_found clocks.clock_table st.clocks w (λ i c. freed clocks.clock_table st.clocks i id.generation)))
-      (λ n y l. refused n y) (λ l.
-      read_case Ended (refused_call clocks.clock_table st.clocks NEVER_ISSUED) (λ c. freed clocks.clock_table st.clocks id.slot id.generation) (refused NEVER_ISSUED (λ e. omega arith)) (λ c z.
-      (l, names.remove_own_spent st.clocks.keys id.slot id.generation l))
-      st.clocks.clocks id.slot)
+      found_lem clocks.clock_table st.clocks id Ended (λ i c. freed clocks.clock_table st.clocks i id.generation) (λ n y z. absurd (y (sym (told_number n) ∙ z)))
+      (λ l c z. (l, names.remove_own_spent st.clocks.keys id.slot id.generation l))
     where
       Ended : ClockDone → Type 0
       Ended r = number_told (clockRuns.done_as r).answer ≡ 0 → (lives of_clock st id.slot id.generation ≡ true) × Spent r.table.keys id.slot id.generation
-
-      refused : (n : ℕ) → (n ≡ 0 → ⊥) → Ended (refused_call clocks.clock_table st.clocks n)
-      refused n y z = absurd (y (sym (told_number n) ∙ z))
 
   pub modulator_removed :
       (id : ModulatorId) → call_number st (modulator (modulatorCommand.Remove id)) ≡ 0
       → (lives of_modulator st id.slot id.generation ≡ true) × Spent (keys_of of_modulator (after st (modulator (modulatorCommand.Remove id)))) id.slot id.generation
   unfolding run_modulator_of modulators.remove_of
   modulator_removed id =
-      found_case st.modulators.keys id.slot id.generation
-      (λ w. Ended (modulators.on_modulator st.modulators w (λ i m. freed modulators.modulator_table st.modulators i id.generation))) (λ n y l. refused n y) (λ l.
-      read_case Ended (refused_call modulators.modulator_table st.modulators NEVER_ISSUED) (λ s. freed modulators.modulator_table st.modulators id.slot id.generation) (refused NEVER_ISSUED (λ e. omega arith)) (λ s z.
-      (l, names.remove_own_spent st.modulators.keys id.slot id.generation l))
-      st.modulators.slots id.slot)
+      found_lem modulators.modulator_table st.modulators id Ended (λ i s. freed modulators.modulator_table st.modulators i id.generation) (λ n y z. absurd (y (sym (told_number n) ∙ z)))
+      (λ l s z. (l, names.remove_own_spent st.modulators.keys id.slot id.generation l))
     where
       Ended : ModulatorDone → Type 0
       Ended r = number_told (modulatorRuns.done_as r).answer ≡ 0 → (lives of_modulator st id.slot id.generation ≡ true) × Spent r.table.keys id.slot id.generation
-
-      refused : (n : ℕ) → (n ≡ 0 → ⊥) → Ended (refused_call modulators.modulator_table st.modulators n)
-      refused n y z = absurd (y (sym (told_number n) ∙ z))
 
 -- ---- a run
 

@@ -3,63 +3,54 @@
 -- updates there stays sound, so its value is finite (`float_value_lem`, `speed_rate`, which stands for a reader).
 -- RULES, no-nan. Assumes nothing.
 use Prim.Native.Nat.{ℕ, zero, suc, ◌+◌}
-use mathlib.Core.Path.{◌≡◌, refl}
-use mathlib.Core.Bool.{cond}
+use mathlib.Core.Path.{◌≡◌, refl, subst}
 use mathlib.Core.List.{List, [], ◌∷◌}
 use lib.ListN.{set}
-use lib.Dec.{T, eqb}
+use lib.Dec.{T}
 use lib.Ieee.{Float, eq, le, lt, fits}
 use lib.Ieee.Scale.{finite}
 use Rattle.doubles.specs.Doubles.{zero_f}
-use Rattle.ids.specs.Lists.{read_at}
 use Rattle.ids.specs.declared.Key.{Key}
 use Rattle.ids.proofs.Names as names
 use Rattle.ids.proofs.Places.{found_case}
-use Rattle.judge.specs.Judge.{no_faults, dt_faults, first_fault}
-use Rattle.values.specs.Speeds.{tps_of}
+use Rattle.judge.specs.Judge.{no_faults, dt_faults}
+use Rattle.values.specs.Speeds.{tps_of, speed_tweens}
+use Rattle.values.specs.Tweenables.{float_tweens}
+use Rattle.values.specs.declared.clock_speed.ClockSpeed.{ClockSpeed}
 use Rattle.values.specs.declared.clock_speed.ClockSpeed.TheVariants.{TicksPerSecond}
-use Rattle.values.specs.declared.value.FloatValue.{FloatValue}
-use Rattle.values.specs.declared.value.FloatValue.TheVariants as float
-use Rattle.values.specs.declared.value.Input.TheVariants as input
 use Rattle.values.specs.declared.value.ModulatorId.{ModulatorId}
-use Rattle.values.specs.declared.value.SpeedValue.{SpeedValue}
-use Rattle.values.specs.declared.value.SpeedValue.TheVariants as speed
-use Rattle.parameter.specs.declared.float.FloatState.{FloatState}
-use Rattle.parameter.specs.declared.float.FloatState.TheVariants as floatState
-use Rattle.parameter.specs.declared.float.FloatParameter.{FloatParameter}
-use Rattle.parameter.specs.declared.speed.SpeedState.{SpeedState}
-use Rattle.parameter.specs.declared.speed.SpeedState.TheVariants as speedState
-use Rattle.parameter.specs.declared.speed.SpeedParameter.{SpeedParameter}
-use Rattle.info.specs.Infos.{value_found, modulator_value_of, float_input_of, speed_input_of}
-use Rattle.info.specs.ParametersIn.{float_due_of, float_source_in, float_source_of, try_update_float_in, speed_due_of, speed_source_in, speed_source_of, try_update_speed_in}
+use Rattle.values.specs.declared.value.Value.{Value}
+use Rattle.values.specs.declared.value.Value.TheVariants.{Fixed, FromModulator}
+use Rattle.parameter.specs.declared.State.{State}
+use Rattle.parameter.specs.declared.State.TheVariants.{Idle, Tweening}
+use Rattle.parameter.specs.declared.Parameter.{Parameter}
+use Rattle.info.specs.Infos.{value_found, modulator_value_of, input_of}
+use Rattle.info.specs.ParametersIn.{parameter_due_of, source_in, source_of, sight_of, try_update_in}
 use Rattle.info.specs.declared.info.Info.{Info}
 use Rattle.clock.specs.OneClock.{new_clock, position_of}
 use Rattle.clock.specs.declared.Clock.{Clock}
-use Rattle.judge.specs.Answer.{Answer, accepted, refused}
-use Rattle.clock.specs.declared.Ticked.{Ticked}
-use Rattle.clock.specs.declared.Reported.{Reported}
+use Rattle.std.specs.Prelude.{Option, Some, None}
 use Rattle.modulator.specs.Tweeners.{new_tweener}
 use Rattle.modulator_table.specs.ModulatorTables.{value_of, slot_value, slot_of}
 use Rattle.modulator_table.specs.declared.Modulator.{Modulator}
 use Rattle.modulator_table.specs.declared.Modulator.TheVariants.{OfTweener, OfLfo}
 use Rattle.modulator_table.specs.declared.Slot.{Slot}
-use Rattle.station.specs.Frames.{Try, went, stopped, seeing, watching, modulator_turn, modulator_turns, turned, modulators_turned, placed, then, clock_turn, clock_turns, closed, clocks_turned, no_reports, undone_of, framed, frame_of}
+use Rattle.station.specs.Frames.{Try, went, seeing, watching, modulator_turn, modulator_turns, placed, clock_turn, clock_turns, frame_of}
 use Rattle.station.specs.Stations.{fresh_station, info_in}
-use Rattle.station.specs.Turns.{tweener_due, sight_of, turn_modulator, turn_clock}
-use Rattle.station.specs.declared.frame.Framed.{Framed}
+use Rattle.station.specs.Turns.{tweener_due, turn_modulator, turn_clock}
 use Rattle.station.specs.declared.Station.{Station}
 use Rattle.laws.specs.Calls.{Call, clock, modulator, frame, after, after_all}
-use Rattle.laws.specs.Sound.{SoundInput, SoundFloat, SoundSpeed}
+use Rattle.laws.specs.Sound.{Asked, floats, speeds, SoundInput, SoundParameter, SoundFloat, SoundSpeed}
 use Rattle.laws.specs.SoundStation.{All, Number, SoundClock, SoundModulator, SoundSlot, SoundModulators, SoundStation, CallDoubles, Ticks, Shows}
-use Rattle.laws.proofs.lemmas.Accepted.{judged_case}
 use Rattle.laws.proofs.lemmas.Clear.{fraction_range}
 use Rattle.laws.proofs.lemmas.ClocksKept.{SoundMoved, new_clock_lem, update_clock, run_clock_sound}
-use Rattle.laws.proofs.lemmas.Deeds.{cond_case, read_case, turned_to}
+use Rattle.laws.proofs.lemmas.Cases.{slot_case, turn_case, Ends, next, turned_slots, turned_clocks, turned_to, frame_case}
 use Rattle.laws.proofs.lemmas.Every.{all_set, all_replicate, all_map, all_weaker, all_read}
-use Rattle.laws.proofs.lemmas.Floats as floats
+use Rattle.laws.proofs.lemmas.Floats.{float_mixes, sound_value}
 use Rattle.laws.proofs.lemmas.ModulatorsKept.{new_tweener_lem, update_tweener, update_lfo, run_modulator_sound}
 use Rattle.laws.proofs.lemmas.Signed.{within_finite}
-use Rattle.laws.proofs.lemmas.Speeds as speeds
+use Rattle.laws.proofs.lemmas.Parameters.{Mixes, advance_sound}
+use Rattle.laws.proofs.lemmas.Speeds.{speed_mixes, sound_rate}
 
 -- ---- what is seen
 
@@ -75,34 +66,18 @@ module _ (info : Info) (h : All Number info.values) where
   unfolding modulator_value_of
   value_seen id =
       found_case info.modulator_keys id.slot id.generation (λ w. SoundInput (value_found info.values w)) (λ n z l. tt) (λ l.
-      all_read Number SoundInput input.None (λ x. input.Is x) tt (λ x k. k) info.values id.slot h)
+      all_read Number SoundInput None (λ x. Some x) tt (λ x k. k) info.values id.slot h)
 
-  float_input : (v : FloatValue) → SoundInput (float_input_of info v)
-  float_input (float.Fixed x) = tt
-  float_input (float.FromModulator id m) = value_seen id
+  module _ {A : Type 0} where
+    input_seen : (v : Value A) → SoundInput (input_of info v)
+    input_seen (Fixed x) = tt
+    input_seen (FromModulator id m) = value_seen id
 
-  float_seen : (s : FloatState) → SoundInput (float_source_in info s)
-  float_seen (floatState.Idle v) = float_input v
-  float_seen (floatState.Tweening t) = float_input t.target
-
-  speed_input : (v : SpeedValue) → SoundInput (speed_input_of info v)
-  speed_input (speed.Fixed x) = tt
-  speed_input (speed.FromModulator id m) = value_seen id
-
-  speed_seen : (s : SpeedState) → SoundInput (speed_source_in info s)
-  speed_seen (speedState.Idle v) = speed_input v
-  speed_seen (speedState.Tweening t) = speed_input t.target
+    source_seen : (s : State A) → SoundInput (source_in info s)
+    source_seen (Idle v) = input_seen v
+    source_seen (Tweening t) = input_seen t.target
 
 -- ---- turns
-
--- sound clocks, or a refusal
-abbrev SoundTry : Try → Type 0
-SoundTry (went cs rs) = All SoundClock cs
-SoundTry (stopped n) = Unit {0}
-
-next : (f : List Clock → List Reported → Try) → ((cs : List Clock) (rs : List Reported) → All SoundClock cs → SoundTry (f cs rs)) → (r : Try) → SoundTry r → SoundTry (then f r)
-next f h (went cs rs) k = h cs rs k
-next f h (stopped n) k = tt
 
 module _ (dt : Float) (h : dt_faults dt ≡ no_faults) where
   modulator_turned : (info : Info) → All Number info.values → (m : Modulator) → SoundModulator m → SoundModulator (turn_modulator info m dt)
@@ -110,19 +85,17 @@ module _ (dt : Float) (h : dt_faults dt ≡ no_faults) where
   modulator_turned info k (OfTweener t) s = update_tweener t dt (tweener_due info t) s h
   modulator_turned info k (OfLfo l) s =
       update_lfo l dt (record { frequency = sight_of info l.frequency; amplitude = sight_of info l.amplitude; offset = sight_of info l.offset }) s h
-      (record { frequency = float_seen info k l.frequency.state; amplitude = float_seen info k l.amplitude.state; offset = float_seen info k l.offset.state })
+      (record { frequency = source_seen info k l.frequency.state; amplitude = source_seen info k l.amplitude.state; offset = source_seen info k l.offset.state })
 
   clock_turned : (info : Info) → All Number info.values → (c : Clock) → SoundClock c → SoundMoved (turn_clock info c dt)
   unfolding turn_clock
-  clock_turned info k c s = update_clock c dt (speed_due_of info c.speed) (speed_source_of info c.speed) s h (speed_seen info k c.speed.state)
+  clock_turned info k c s = update_clock c dt (parameter_due_of info c.speed) (source_of info c.speed) s h (source_seen info k c.speed.state)
 
   module _ (info : Info) (keys : List Key) where
     -- a slot that is not used, or is past the table, has no turn
     modulator_turn_lem : (i : ℕ) (ss : List Slot) → All SoundSlot ss → All SoundSlot (modulator_turn info dt keys i ss)
     modulator_turn_lem i ss k =
-        read_case (All SoundSlot) ss (λ (q : Key). cond q.used (read_at ss turn ss i) ss) k (λ q.
-        cond_case (All SoundSlot) (read_at ss turn ss i) ss (all_read SoundSlot (All SoundSlot) ss turn k turn_kept ss i k) k q.used)
-        keys i
+        slot_case (All SoundSlot) ss turn keys ss i k (all_read SoundSlot (All SoundSlot) ss turn k turn_kept ss i k)
       where
         to : Slot → Slot
         to s = slot_of (turn_modulator (seeing info ss) s.modulator dt)
@@ -139,60 +112,44 @@ module _ (dt : Float) (h : dt_faults dt ≡ no_faults) where
     modulator_turns_lem (suc n) i ss k = modulator_turns_lem n (i + 1) (modulator_turn info dt keys i ss) (modulator_turn_lem i ss k)
 
     module _ (v : All Number info.values) where
-      clock_turn_lem : (i : ℕ) (cs : List Clock) (rs : List Reported) → All SoundClock cs → SoundTry (clock_turn info dt keys i cs rs)
-      clock_turn_lem i cs rs k =
-          read_case SoundTry (went cs rs) (λ (q : Key). cond q.used (read_at (went cs rs) turn cs i) (went cs rs)) k (λ q.
-          cond_case SoundTry (read_at (went cs rs) turn cs i) (went cs rs) (all_read SoundClock SoundTry (went cs rs) turn k turn_kept cs i k) k q.used)
-          keys i
+      clock_turn_lem : (i : ℕ) (cs : List Clock) (rs : List (Option ℕ)) → All SoundClock cs → Ends (All SoundClock) (clock_turn info dt keys i cs rs)
+      clock_turn_lem i cs rs k = slot_case (Ends (All SoundClock)) (went cs rs) turn keys cs i k (all_read SoundClock (Ends (All SoundClock)) (went cs rs) turn k turn_kept cs i k)
         where
           turn : Clock → Try
           turn c = placed i cs rs (turn_clock (watching info cs) c dt)
 
-          put : (m : Answer Ticked) → SoundMoved m → SoundTry (placed i cs rs m)
-          put (accepted t) q = all_set SoundClock cs i t.clock q k
-          put (refused n) q = tt
+          turn_kept : (c : Clock) → SoundClock c → Ends (All SoundClock) (turn c)
+          turn_kept c q =
+              turn_case (watching info cs) c dt (λ m. SoundMoved m → Ends (All SoundClock) (placed i cs rs m)) (λ t s. all_set SoundClock cs i t.clock s k) (λ n y s. y)
+              (clock_turned (watching info cs) v c q)
 
-          turn_kept : (c : Clock) → SoundClock c → SoundTry (turn c)
-          turn_kept c q = put (turn_clock (watching info cs) c dt) (clock_turned (watching info cs) v c q)
-
-      clock_turns_lem : (n i : ℕ) (cs : List Clock) (rs : List Reported) → All SoundClock cs → SoundTry (clock_turns info dt keys n i cs rs)
+      clock_turns_lem : (n i : ℕ) (cs : List Clock) (rs : List (Option ℕ)) → All SoundClock cs → Ends (All SoundClock) (clock_turns info dt keys n i cs rs)
       unfolding clock_turns
       clock_turns_lem zero i cs rs k = k
-      clock_turns_lem (suc n) i cs rs k = next (clock_turns info dt keys n (i + 1)) (λ cs rs q. clock_turns_lem n (i + 1) cs rs q) (clock_turn info dt keys i cs rs) (clock_turn_lem i cs rs k)
+      clock_turns_lem (suc n) i cs rs k =
+          next (All SoundClock) (All SoundClock) (clock_turns info dt keys n (i + 1)) (λ cs rs q. clock_turns_lem n (i + 1) cs rs q) (clock_turn info dt keys i cs rs)
+          (clock_turn_lem i cs rs k)
 
 -- ---- calls
-
--- the slots after a frame's turns
-abbrev turned_slots : Station → Float → List Slot
-turned_slots st dt = turned (info_in st) dt st.modulators
-
--- and what the clocks' turns gave: they see every modulator's new value
-abbrev turned_clocks : Station → Float → Try
-turned_clocks st dt = clock_turns (seeing (info_in st) (turned_slots st dt)) dt st.clocks.keys 16 0 st.clocks.clocks no_reports
 
 module _ (st : Station) (s : SoundStation st) where
   module _ (dt : Float) (h : dt_faults dt ≡ no_faults) where
     slots_kept : All SoundSlot (turned_slots st dt)
     slots_kept = modulator_turns_lem dt h (info_in st) st.modulators.keys 16 0 st.modulators.slots s.modulators.entries
 
-    clocks_kept : SoundTry (turned_clocks st dt)
+    clocks_kept : Ends (All SoundClock) (turned_clocks st dt)
     clocks_kept =
-        clock_turns_lem dt h (seeing (info_in st) (turned_slots st dt)) st.clocks.keys (all_map SoundSlot Number slot_value slot_number (turned_slots st dt) slots_kept) 16 0 st.clocks.clocks no_reports
+        clock_turns_lem dt h (seeing (info_in st) (turned_slots st dt)) st.clocks.keys (all_map SoundSlot Number slot_value slot_number (turned_slots st dt) slots_kept) 16 0 st.clocks.clocks _
         s.clocks.entries
 
     modulators_kept : SoundModulators (turned_to st (turned_slots st dt))
     modulators_kept = record { keys = s.modulators.keys; entries = slots_kept }
 
-    ended : (r : Try) → SoundTry r → SoundStation (framed st (turned_to st (turned_slots st dt)) (closed st.clocks r)).station
-    ended (went cs rs) k = record { clocks = record { keys = s.clocks.keys; entries = k }; modulators = modulators_kept }
-    ended (stopped n) k =
-        cond_case (λ (r : Framed). SoundStation r.station)
-        (record { refused = 0; station = record { clocks = st.clocks; modulators = turned_to st (turned_slots st dt) }; reports = no_reports }) (undone_of st n)
-        (record { clocks = s.clocks; modulators = modulators_kept }) s (eqb n 0)
-
   frame_sound : (dt : Float) → SoundStation (frame_of st dt).station
-  unfolding frame_of modulators_turned clocks_turned
-  frame_sound dt = judged_case (λ (r : Framed). SoundStation r.station) (dt_faults dt) _ (undone_of st (first_fault (dt_faults dt))) (λ h. ended dt h (turned_clocks st dt) (clocks_kept dt h)) s
+  frame_sound dt =
+      frame_case st dt (λ r. SoundStation r.station)
+      (λ h cs rs e. record { clocks = record { keys = s.clocks.keys; entries = subst (Ends (All SoundClock)) e (clocks_kept dt h) }; modulators = modulators_kept dt h })
+      (λ n y. s)
 
   pub after_sound : (c : Call) → CallDoubles c → SoundStation (after st c)
   after_sound (clock c) F = record { clocks = run_clock_sound st.clocks s.clocks c F; modulators = s.modulators }
@@ -213,21 +170,17 @@ module _ (st : Station) (s : SoundStation st) (dt : Float) where
   unfolding info_in
   shown = all_map SoundSlot Number slot_value slot_number st.modulators.slots s.modulators.entries
 
-  module _ (p : FloatParameter) (k : SoundFloat p) where
-    pub float_sound : SoundFloat (try_update_float_in (info_in st) p dt).parameter
-    unfolding try_update_float_in
-    float_sound = floats.advance_sound p k dt (float_due_of (info_in st) p) (float_source_of (info_in st) p) (float_seen (info_in st) shown p.state)
+  pub parameter_sound : {A : Type 0} (q : Asked A) {Target : A → Type 0} → Mixes q Target → (p : Parameter A) → SoundParameter q p → SoundParameter q (try_update_in q.tweens (info_in st) p dt).parameter
+  unfolding try_update_in
+  parameter_sound q x p k = advance_sound q x p k dt (parameter_due_of (info_in st) p) (source_of (info_in st) p) (source_seen (info_in st) shown p.state)
 
-    pub float_value_lem : T (finite (try_update_float_in (info_in st) p dt).parameter.raw)
-    float_value_lem = floats.sound_value (try_update_float_in (info_in st) p dt).parameter float_sound
+  pub float_value_lem : (p : Parameter Float) → SoundFloat p → T (finite (try_update_in float_tweens (info_in st) p dt).parameter.raw)
+  float_value_lem p k = sound_value (try_update_in float_tweens (info_in st) p dt).parameter (parameter_sound floats float_mixes p k)
 
-  module _ (p : SpeedParameter) (k : SoundSpeed p) where
-    pub speed_sound : SoundSpeed (try_update_speed_in (info_in st) p dt).parameter
-    unfolding try_update_speed_in
-    speed_sound = speeds.advance_sound p k dt (speed_due_of (info_in st) p) (speed_source_of (info_in st) p) (speed_seen (info_in st) shown p.state)
-
-    pub speed_rate : T (finite (tps_of (try_update_speed_in (info_in st) p dt).parameter.raw)) × T (le zero_f (tps_of (try_update_speed_in (info_in st) p dt).parameter.raw))
-    speed_rate = speeds.sound_rate (try_update_speed_in (info_in st) p dt).parameter speed_sound
+  pub speed_rate :
+      (p : Parameter ClockSpeed) → SoundSpeed p
+      → T (finite (tps_of (try_update_in speed_tweens (info_in st) p dt).parameter.raw)) × T (le zero_f (tps_of (try_update_in speed_tweens (info_in st) p dt).parameter.raw))
+  speed_rate p k = sound_rate (try_update_in speed_tweens (info_in st) p dt).parameter (parameter_sound speeds speed_mixes p k)
 
 -- ---- from the beginning
 
@@ -235,7 +188,7 @@ pub fresh_sound : SoundStation fresh_station
 fresh_sound = record {
   clocks = record {
     keys = names.start_numbered 16;
-    entries = all_replicate SoundClock 16 (new_clock (speed.Fixed (TicksPerSecond zero_f))) (new_clock_lem (speed.Fixed (TicksPerSecond zero_f)) (unfold fits in tt) (unfold eq in refl));
+    entries = all_replicate SoundClock 16 (new_clock (Fixed (TicksPerSecond zero_f))) (new_clock_lem (Fixed (TicksPerSecond zero_f)) (unfold fits in tt) (unfold eq in refl));
   };
   modulators = record { keys = names.start_numbered 16; entries = all_replicate SoundSlot 16 (slot_of (OfTweener (new_tweener zero_f))) (new_tweener_lem zero_f (unfold fits in tt) (unfold lt in refl)) };
 }
@@ -253,6 +206,6 @@ module _ (cs : List Call) (F : All CallDoubles cs) where
     where
       ticks : (c : Clock) → SoundClock c → Ticks c
       ticks c k =
-          let r = speeds.sound_rate c.speed k.speed in
+          let r = sound_rate c.speed k.speed in
           let f = fraction_range (position_of c.state).fraction k.position.accepted in
           record { rate = r.0; forward = r.1; least = f.1; below = f.2; clear = f.0 }

@@ -8,28 +8,22 @@ use mathlib.Core.List.{List}
 use lib.Dec.{eqb}
 use borrow.Author.Tests.{eqb-true, eqb-false}
 use lib.Ieee.{Float}
-use Rattle.ids.specs.Keys.{Place, place, free_of}
-use Rattle.ids.specs.Tables.{Table, read_found, where_is, refused_add, placed_in, added_to}
+use Rattle.std.specs.Prelude.{Option}
+use Rattle.ids.specs.Tables.{Table, read_found, where_is, added_to}
 use Rattle.ids.specs.declared.Key.{Key}
-use Rattle.ids.proofs.Places.{found_case, room_number}
-use Rattle.judge.specs.Answer.{Answer, accepted, refused, is_refused, number_told, on_accepted}
-use Rattle.judge.specs.Judge.{of_add, float_faults, dt_faults, number_of, first_fault, decided}
-use Rattle.judge.specs.Numbers.{NO_ROOM, NEVER_ISSUED}
+use Rattle.ids.proofs.Places.{found_case}
+use Rattle.judge.specs.Answer.{Answer, accepted, refused, number_told, on_accepted}
+use Rattle.judge.specs.Judge.{float_faults, dt_faults, first_fault, decided}
+use Rattle.judge.specs.Numbers.{NEVER_ISSUED}
 use Rattle.judge.specs.declared.Faults.{Faults}
 use Rattle.times.specs.declared.start_time.When.{When}
 use Rattle.times.specs.declared.tween.Tween.{Tween}
-use Rattle.values.specs.declared.value.FloatValue.{FloatValue}
-use Rattle.values.specs.declared.value.Input.{Input}
-use Rattle.values.specs.declared.value.SpeedValue.{SpeedValue}
-use Rattle.parameter.specs.FloatParameters as floats
-use Rattle.parameter.specs.SpeedParameters as speeds
-use Rattle.parameter.specs.declared.float.FloatAdvanced.{FloatAdvanced}
-use Rattle.parameter.specs.declared.float.FloatParameter.{FloatParameter}
-use Rattle.parameter.specs.declared.float.FloatSet.{FloatSet}
-use Rattle.parameter.specs.declared.speed.SpeedAdvanced.{SpeedAdvanced}
-use Rattle.parameter.specs.declared.speed.SpeedParameter.{SpeedParameter}
-use Rattle.parameter.specs.declared.speed.SpeedSet.{SpeedSet}
-use Rattle.values.specs.Values.{speed_value_faults}
+use Rattle.values.specs.Tweenables.{Tweens}
+use Rattle.values.specs.declared.value.Value.{Value}
+use Rattle.parameter.specs.Parameters.{Set, Advanced, set_faults, try_set_of, try_update_of}
+use Rattle.parameter.specs.declared.Parameter.{Parameter}
+use Rattle.values.specs.Speeds.{speed_tweens}
+use Rattle.values.specs.Values.{value_faults}
 use Rattle.clock.specs.OneClock.{new_clock}
 use Rattle.clock.specs.declared.Clock.{Clock}
 use Rattle.clock_table.specs.ClockTables as clocks
@@ -50,7 +44,8 @@ use Rattle.commands.specs.declared.modulator_command.ModulatorCommand.TheVariant
 use Rattle.station.specs.Frames.{frame_of}
 use Rattle.station.specs.declared.Station.{Station}
 use Rattle.laws.specs.Calls.{Call, clock, modulator, frame, after, Kind, of_clock, of_modulator, keys_of, entries_of, Told, refusal, done, told, call_number, Target}
-use Rattle.laws.proofs.lemmas.Deeds.{read_case, Deed, leaves, changes, removes, adds, turns, deed}
+use Rattle.laws.proofs.lemmas.Cases.{read_case, added_lem}
+use Rattle.laws.proofs.lemmas.Deeds.{Deed, leaves, changes, removes, adds, turns, deed}
 
 -- ---- calls on a station
 
@@ -58,10 +53,10 @@ unmoved :
     {A : Type 0} {k : Kind} {ks ls : List Key} {es fs : List A} {a : Target} {o : Told} → Deed k ks es a o ls fs → (n : ℕ) → o ≡ refusal n
     → (ls ≡ ks) × (fs ≡ es)
 unmoved (leaves a o u) n e = (refl, refl)
-unmoved (changes i g x l) n e = let z : ◌≡◌ {A = ℕ} 0 1 = cc in absurd (omega arith)
-unmoved (removes i g l) n e = let z : ◌≡◌ {A = ℕ} 0 1 = cc in absurd (omega arith)
-unmoved (adds i g x f) n e = let z : ◌≡◌ {A = ℕ} 0 1 = cc in absurd (omega arith)
-unmoved (turns fs) n e = let z : ◌≡◌ {A = ℕ} 0 1 = cc in absurd (omega arith)
+unmoved (changes i g x l) n e = absurd (cc)
+unmoved (removes i g l) n e = absurd (cc)
+unmoved (adds i g x f) n e = absurd (cc)
+unmoved (turns fs) n e = absurd (cc)
 
 same_station : (s t : Station) → ((k : Kind) → (keys_of k s ≡ keys_of k t) × (entries_of k s ≡ entries_of k t)) → s ≡ t
 same_station s t h = go s.clocks.keys s.clocks.clocks s.modulators.keys s.modulators.slots (h of_clock).0 (h of_clock).1 (h of_modulator).0 (h of_modulator).1
@@ -115,22 +110,11 @@ module _ {T E I D : Type 0} (k : Table T E I D) (t : T) where
       read_case Numbered (refused NEVER_ISSUED) (λ e. accepted (f e)) (λ z. omega arith) (λ e. tt) (k.entries_of t) (k.slot_in id))
 
   numbered_add : (f : Faults) (e : E) → Numbered (added_to k t f e).answer
-  numbered_add f e = go (eqb n 0) (eqb-false n 0)
-    where
-      n : ℕ
-      n = number_of (of_add f (is_refused (free_of 0 (k.keys_of t))))
-
-      put : (w : Answer Place) → free_of 0 (k.keys_of t) ≡ w → Numbered (placed_in k t e w).answer
-      put (accepted (place i g)) q = tt
-      put (refused m) q = λ z. let h : m ≡ NO_ROOM = room_number (k.keys_of t) 0 m q in omega arith
-
-      go : (b : Bool) → (b ≡ false → n ≡ 0 → ⊥) → Numbered (cond b (placed_in k t e (free_of 0 (k.keys_of t))) (refused_add k t n)).answer
-      go true h = put (free_of 0 (k.keys_of t)) refl
-      go false h = h refl
+  numbered_add f e = added_lem k t f e (λ r. Numbered r.answer) (λ n z. z) (λ i g z q. tt)
 
 clocks_numbered : (t : Clocks) (c : ClockCommand) → Numbered (run_clock_of t c).answer
 unfolding run_clock_of clocks.add_clock_of clocks.clock_time_of clocks.clock_ticking_of clocks.clock_speed_of
-clocks_numbered t (clockCommand.Add v) = numbered_on _ (clocks.add_clock_of t v).answer (numbered_add clocks.clock_table t (speed_value_faults v) (new_clock v))
+clocks_numbered t (clockCommand.Add v) = numbered_on _ (clocks.add_clock_of t v).answer (numbered_add clocks.clock_table t (value_faults speed_tweens v) (new_clock v))
 clocks_numbered t (clockCommand.Remove id) = numbered_decided (clocks.remove_of t id).refused _
 clocks_numbered t (clockCommand.Start id) = numbered_decided (clocks.tick_on_of true t id).refused _
 clocks_numbered t (clockCommand.Stop id) = numbered_decided (clocks.tick_on_of false t id).refused _
@@ -168,20 +152,12 @@ kept :
 kept number part p x y h e true n = absurd (n h)
 kept number part p x y h e false n = e
 
-module _ (p : FloatParameter) where
-  pub float_change_leaves : (v : FloatValue) (t : Tween) → ((floats.try_set_of p v t).refused ≡ 0 → ⊥) → (floats.try_set_of p v t).parameter ≡ p
-  unfolding floats.try_set_of
-  float_change_leaves v t n = kept (λ (r : FloatSet). r.refused) (λ (r : FloatSet). r.parameter) p _ _ refl refl (eqb (first_fault (floats.set_faults p v t)) 0) n
+-- whatever kind its values are
+module _ {A : Type 0} (k : Tweens A) (p : Parameter A) where
+  pub change_leaves : (v : Value A) (t : Tween) → ((try_set_of k p v t).refused ≡ 0 → ⊥) → (try_set_of k p v t).parameter ≡ p
+  unfolding try_set_of
+  change_leaves v t n = kept (λ (r : Set A). r.refused) (λ (r : Set A). r.parameter) p _ _ refl refl (eqb (first_fault (set_faults k p v t)) 0) n
 
-  pub float_advance_leaves : (dt : Float) (w : When) (i : Input) → ((floats.try_update_of p dt w i).refused ≡ 0 → ⊥) → (floats.try_update_of p dt w i).parameter ≡ p
-  unfolding floats.try_update_of
-  float_advance_leaves dt w i n = kept (λ (r : FloatAdvanced). r.refused) (λ (r : FloatAdvanced). r.parameter) p _ _ refl refl (eqb (first_fault (dt_faults dt)) 0) n
-
-module _ (p : SpeedParameter) where
-  pub speed_change_leaves : (v : SpeedValue) (t : Tween) → ((speeds.try_set_of p v t).refused ≡ 0 → ⊥) → (speeds.try_set_of p v t).parameter ≡ p
-  unfolding speeds.try_set_of
-  speed_change_leaves v t n = kept (λ (r : SpeedSet). r.refused) (λ (r : SpeedSet). r.parameter) p _ _ refl refl (eqb (first_fault (speeds.set_faults p v t)) 0) n
-
-  pub speed_advance_leaves : (dt : Float) (w : When) (i : Input) → ((speeds.try_update_of p dt w i).refused ≡ 0 → ⊥) → (speeds.try_update_of p dt w i).parameter ≡ p
-  unfolding speeds.try_update_of
-  speed_advance_leaves dt w i n = kept (λ (r : SpeedAdvanced). r.refused) (λ (r : SpeedAdvanced). r.parameter) p _ _ refl refl (eqb (first_fault (dt_faults dt)) 0) n
+  pub advance_leaves : (dt : Float) (w : When) (i : Option Float) → ((try_update_of k p dt w i).refused ≡ 0 → ⊥) → (try_update_of k p dt w i).parameter ≡ p
+  unfolding try_update_of
+  advance_leaves dt w i n = kept (λ (r : Advanced A). r.refused) (λ (r : Advanced A). r.parameter) p _ _ refl refl (eqb (first_fault (dt_faults dt)) 0) n

@@ -1,34 +1,29 @@
 -- What holds of the parameters that calls can reach: no NaN in a value or a speed, a tween's time within its duration,
 -- its start readable in its target's unit, nothing under way where a parameter is stagnant. 01, "parameter.rs" and
 -- "Speeds"; RULES, no-nan. Assumes nothing.
-use Rattle.std.specs.Prelude.{◌≡◌, ℕ, true, false, pos, T, Float}
+use Rattle.std.specs.Prelude.{◌≡◌, ℕ, true, false, pos, T, Float, Option, Some, None}
 use Rattle.std.specs.Float.{fin, binary64}
 use Rattle.std.specs.Float.Ieee.{fits}
 use Rattle.std.specs.Float.Ieee.Scale.{finite}
 use Rattle.doubles.specs.Doubles.{zero_f}
 use Rattle.doubles.specs.Intervals.{Between}
 use Rattle.times.specs.Durations.{seconds_of}
-use Rattle.judge.specs.Judge.{no_faults}
-use Rattle.values.specs.Speeds.{bad_reading}
-use Rattle.values.specs.RunningSpeeds.{Running, number_of}
 use Rattle.times.specs.Easings.{tween_faults}
-use Rattle.values.specs.Values.{float_value_faults, speed_value_faults}
-use Rattle.values.specs.declared.value.Input.{Input}
-use Rattle.values.specs.declared.value.Input.TheVariants as input
-use Rattle.values.specs.declared.value.FloatValue.{FloatValue}
-use Rattle.values.specs.declared.value.FloatValue.TheVariants as float
-use Rattle.values.specs.declared.value.SpeedValue.{SpeedValue}
-use Rattle.values.specs.declared.value.SpeedValue.TheVariants as speed
-use Rattle.parameter.specs.SpeedParameters.{target_unit}
+use Rattle.judge.specs.Judge.{no_faults}
+use Rattle.values.specs.RunningSpeeds.{Running, number_of}
+use Rattle.values.specs.Speeds.{speed_tweens}
+use Rattle.values.specs.Tweenables.{Tweens, float_tweens}
+use Rattle.values.specs.Values.{value_faults}
+use Rattle.values.specs.declared.clock_speed.ClockSpeed.{ClockSpeed}
+use Rattle.values.specs.declared.value.Mapping.{Mapping}
+use Rattle.values.specs.declared.value.Value.{Value}
+use Rattle.values.specs.declared.value.Value.TheVariants.{Fixed, FromModulator}
+use Rattle.parameter.specs.Parameters.{target_unit}
 use Rattle.parameter.specs.declared.course.Course.{Course}
-use Rattle.parameter.specs.declared.float.FloatTweening.{FloatTweening}
-use Rattle.parameter.specs.declared.float.FloatState.{FloatState}
-use Rattle.parameter.specs.declared.float.FloatState.TheVariants as floatState
-use Rattle.parameter.specs.declared.float.FloatParameter.{FloatParameter}
-use Rattle.parameter.specs.declared.speed.SpeedTweening.{SpeedTweening}
-use Rattle.parameter.specs.declared.speed.SpeedState.{SpeedState}
-use Rattle.parameter.specs.declared.speed.SpeedState.TheVariants as speedState
-use Rattle.parameter.specs.declared.speed.SpeedParameter.{SpeedParameter}
+use Rattle.parameter.specs.declared.Tweening.{Tweening}
+use Rattle.parameter.specs.declared.State.{State}
+use Rattle.parameter.specs.declared.State.TheVariants as states
+use Rattle.parameter.specs.declared.Parameter.{Parameter}
 
 -- ---- numbers
 
@@ -45,27 +40,47 @@ abbrev pub Sized : Float → Type 0
 Sized x = Double x × Within 40 x
 
 -- what a modulator shows: a number, or that it does not live
-abbrev pub SoundInput : Input → Type 0
-SoundInput (input.Is x) = Double x × T (finite x)
-SoundInput input.None = Unit {0}
+abbrev pub SoundInput : Option Float → Type 0
+SoundInput (Some x) = Double x × T (finite x)
+SoundInput None = Unit {0}
+
+-- ---- the kinds of values
+
+-- what is asked of the values of one kind
+pub record Asked (A : Type 0) : Type 1 where
+  pub tweens : Tweens A
+  -- their numbers are doubles
+  pub Doubles : A → Type 0
+  -- what a parameter may show
+  pub Shown : A → Type 0
+
+abbrev pub floats : Asked Float
+floats = record { tweens = float_tweens; Doubles = Double; Shown = Sized }
+
+abbrev pub speeds : Asked ClockSpeed
+speeds = record { tweens = speed_tweens; Doubles = λ s. Double (number_of s); Shown = Running }
 
 -- ---- values: doubles, and nothing of them is refused
 
-abbrev pub FloatDoubles : FloatValue → Type 0
-FloatDoubles (float.Fixed x) = Double x
-FloatDoubles (float.FromModulator i m) = Double m.in_lo × Double m.in_hi × Double m.out_lo × Double m.out_hi
+pub record MappingDoubles {A : Type 0} (q : Asked A) (m : Mapping A) : Type 0 where
+  pub in_lo : Double m.in_lo
+  pub in_hi : Double m.in_hi
+  pub out_lo : q.Doubles m.out_lo
+  pub out_hi : q.Doubles m.out_hi
 
-abbrev pub SpeedDoubles : SpeedValue → Type 0
-SpeedDoubles (speed.Fixed s) = Double (number_of s)
-SpeedDoubles (speed.FromModulator i m) = Double m.in_lo × Double m.in_hi × Double (number_of m.out_lo) × Double (number_of m.out_hi)
+abbrev pub ValueDoubles : {A : Type 0} → Asked A → Value A → Type 0
+ValueDoubles q (Fixed x) = q.Doubles x
+ValueDoubles q (FromModulator i m) = MappingDoubles q m
 
-pub record SoundFloatValue (v : FloatValue) : Type 0 where
-  pub doubles : FloatDoubles v
-  pub accepted : float_value_faults v ≡ no_faults
+abbrev pub FloatDoubles : Value Float → Type 0
+FloatDoubles v = ValueDoubles floats v
 
-pub record SoundSpeedValue (v : SpeedValue) : Type 0 where
-  pub doubles : SpeedDoubles v
-  pub accepted : speed_value_faults v ≡ no_faults
+abbrev pub SpeedDoubles : Value ClockSpeed → Type 0
+SpeedDoubles v = ValueDoubles speeds v
+
+pub record SoundValue {A : Type 0} (q : Asked A) (v : Value A) : Type 0 where
+  pub doubles : ValueDoubles q v
+  pub accepted : value_faults q.tweens v ≡ no_faults
 
 -- ---- tweens under way
 
@@ -76,37 +91,29 @@ pub record SoundCourse (c : Course) : Type 0 where
   pub double : Double c.time
   pub running : Between zero_f c.time (seconds_of c.tween.duration)
 
-pub record SoundFloatTweening (t : FloatTweening) : Type 0 where
-  pub start : Sized t.start
-  pub target : SoundFloatValue t.target
+-- a speed at the start has a reading in the target's unit, finite and at most 2^27, so no mix of the two is a NaN:
+-- RULES, bad-reading
+pub record SoundTweening {A : Type 0} (q : Asked A) (t : Tweening A) : Type 0 where
+  pub start : q.Shown t.start
+  pub target : SoundValue q t.target
   pub course : SoundCourse t.course
-
--- the start has a reading in the target's unit, finite and at most 2^27, so no mix of the two is a NaN: RULES,
--- bad-reading
-pub record SoundSpeedTweening (t : SpeedTweening) : Type 0 where
-  pub start : Running t.start
-  pub target : SoundSpeedValue t.target
-  pub course : SoundCourse t.course
-  pub readable : bad_reading t.start (target_unit t.target) ≡ false
+  pub readable : q.tweens.unreadable t.start (target_unit t.target) ≡ no_faults
 
 -- ---- parameters
 
-abbrev pub SoundFloatState : FloatState → Type 0
-SoundFloatState (floatState.Idle v) = SoundFloatValue v
-SoundFloatState (floatState.Tweening t) = SoundFloatTweening t
-
-abbrev pub SoundSpeedState : SpeedState → Type 0
-SoundSpeedState (speedState.Idle v) = SoundSpeedValue v
-SoundSpeedState (speedState.Tweening t) = SoundSpeedTweening t
+abbrev pub SoundState : {A : Type 0} → Asked A → State A → Type 0
+SoundState q (states.Idle v) = SoundValue q v
+SoundState q (states.Tweening t) = SoundTweening q t
 
 -- an update leaves a stagnant parameter as it is: it has no tween and no modulator to follow, and shows the fixed value
 -- that it rests at: RULES, at-rest
-pub record SoundFloat (p : FloatParameter) : Type 0 where
-  pub raw : Sized p.raw
-  pub state : SoundFloatState p.state
-  pub resting : p.stagnant ≡ true → p.state ≡ floatState.Idle (float.Fixed p.raw)
+pub record SoundParameter {A : Type 0} (q : Asked A) (p : Parameter A) : Type 0 where
+  pub raw : q.Shown p.raw
+  pub state : SoundState q p.state
+  pub resting : p.stagnant ≡ true → p.state ≡ states.Idle (Fixed p.raw)
 
-pub record SoundSpeed (p : SpeedParameter) : Type 0 where
-  pub raw : Running p.raw
-  pub state : SoundSpeedState p.state
-  pub resting : p.stagnant ≡ true → p.state ≡ speedState.Idle (speed.Fixed p.raw)
+abbrev pub SoundFloat : Parameter Float → Type 0
+SoundFloat p = SoundParameter floats p
+
+abbrev pub SoundSpeed : Parameter ClockSpeed → Type 0
+SoundSpeed p = SoundParameter speeds p

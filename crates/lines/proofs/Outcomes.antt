@@ -1,8 +1,7 @@
 -- Any two outcomes that a statement allows coincide (`Rattle.doubles.proofs.Outcomes` has the law). RULES, one-outcome.
 -- Assumes nothing.
-use Rattle.doubles.proofs.Outcomes.{One, equal}
-use Rattle.lines.proofs.things.speed_value.Reads as speed-value
-use Rattle.lines.proofs.things.speed_value.Kinds as speed-value-kinds
+use Rattle.doubles.proofs.Outcomes.{One, Same, equal}
+use Rattle.text.proofs.Outcomes.{same}
 use Rattle.lines.proofs.things.tween.Reads as tween
 use Rattle.lines.proofs.things.tween.Kinds as tween-kinds
 use Rattle.lines.proofs.clock_lines.add_line.Reads as add-clock
@@ -18,11 +17,8 @@ use Rattle.lines.proofs.modulator_lines.add_lfo_line.Kinds as add-lfo-kinds
 use Rattle.lines.proofs.modulator_lines.by_id_line.Reads as modulator-by-id
 use Rattle.lines.proofs.modulator_lines.by_id_line.Kinds as modulator-by-id-kinds
 
-pub one_speed_value : One 1 speed-value-kinds.ps speed-value-kinds.r speed-value.Post
-one_speed_value κs a x y s t = equal
-
-pub one_tween : One 1 tween-kinds.ps tween-kinds.r tween.Post
-one_tween κs a x y s t = equal
+pub one_tween : Same 2 tween-kinds.ps tween-kinds.r tween.Post (λ κs s. s.0.now)
+one_tween κs a x y s t = same
 
 pub one_add_clock : One 1 add-clock-kinds.ps add-clock-kinds.r add-clock.Post
 one_add_clock κs a x y s t = equal

@@ -2,48 +2,30 @@
 ghost use Rattle.std.specs.Prelude.{◌≡◌};
 ghost use Rattle.lines.specs.ClockLines.{add_line, set_speed_line, command_of, by_id_line};
 
-use crate::things::{SpeedValueAt, TweenAt, speed_value, tween};
+use crate::things::tween;
 use commands::clock_command::ClockCommand;
-use grammar::IdAt;
 use names::OneClock;
+use text::words::Words;
 use times::time::ClockId;
 
-#[derive(Clone, Copy)]
-pub enum ClockLine {
-    Is(ClockCommand),
-    No,
-}
-
 // The call clock.add, behind its name.
-pub fn add_line(line: &[u8], at: usize) -> ClockLine
-    ensures { result ≡ add_line line.now at }
+#[tactic(auto, unfolding(crate::specs::ClockLines::add_line))]
+pub fn add_line(mut words: Words<'_>) -> Option<ClockCommand>
+    ensures { result ≡ add_line words.entry.line.now words.entry.at }
 {
-    let SpeedValueAt::Is(v, to) = speed_value(line, at) else {
-        return ClockLine::No;
-    };
-    if !grammar::ended(line, to) {
-        return ClockLine::No;
-    }
-    ClockLine::Is(ClockCommand::Add(v))
+    let command = ClockCommand::Add(grammar::value(&mut words)?);
+    grammar::ended(&words).then_some(command)
 }
 
 // The call clock.speed, behind its name.
-pub fn set_speed_line(line: &[u8], at: usize) -> ClockLine
-    ensures { result ≡ set_speed_line line.now at }
+#[tactic(auto, unfolding(crate::specs::ClockLines::set_speed_line))]
+pub fn set_speed_line(mut words: Words<'_>) -> Option<ClockCommand>
+    ensures { result ≡ set_speed_line words.entry.line.now words.entry.at }
 {
-    let IdAt::Is(slot, generation, a) = grammar::id(line, at) else {
-        return ClockLine::No;
-    };
-    let SpeedValueAt::Is(v, b) = speed_value(line, a) else {
-        return ClockLine::No;
-    };
-    let TweenAt::Is(t, to) = tween(line, b) else {
-        return ClockLine::No;
-    };
-    if !grammar::ended(line, to) {
-        return ClockLine::No;
-    }
-    ClockLine::Is(ClockCommand::SetSpeed(ClockId { slot, generation }, v, t))
+    let (slot, generation) = grammar::id(&mut words)?;
+    let id = ClockId { slot, generation };
+    let command = ClockCommand::SetSpeed(id, grammar::value(&mut words)?, tween(&mut words)?);
+    grammar::ended(&words).then_some(command)
 }
 
 // The command that a call on one clock is.
@@ -62,14 +44,11 @@ fn command(call: OneClock, id: ClockId) -> ClockCommand
 }
 
 // The calls that take an id and nothing else, behind their names.
-pub fn by_id_line(line: &[u8], at: usize, call: OneClock) -> ClockLine
-    ensures { result ≡ by_id_line line.now at call }
+#[tactic(auto, unfolding(crate::specs::ClockLines::by_id_line))]
+pub fn by_id_line(mut words: Words<'_>, call: OneClock) -> Option<ClockCommand>
+    ensures { result ≡ by_id_line words.entry.line.now words.entry.at call }
 {
-    let IdAt::Is(slot, generation, to) = grammar::id(line, at) else {
-        return ClockLine::No;
-    };
-    if !grammar::ended(line, to) {
-        return ClockLine::No;
-    }
-    ClockLine::Is(command(call, ClockId { slot, generation }))
+    let (slot, generation) = grammar::id(&mut words)?;
+    let id = ClockId { slot, generation };
+    grammar::ended(&words).then_some(command(call, id))
 }

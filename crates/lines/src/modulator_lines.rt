@@ -2,149 +2,104 @@
 ghost use Rattle.std.specs.Prelude.{◌≡◌};
 ghost use Rattle.lines.specs.ModulatorLines.{add_tweener_line, add_lfo_line, set_tweener_line, set_parameter_line, set_waveform_line, set_phase_line, read_line, one_line, by_id_line};
 
-use crate::things::{TweenAt, tween};
+use crate::things::tween;
 use commands::modulator_command::ModulatorCommand;
-use grammar::{FloatAt, FloatValueAt, IdAt, WaveAt};
 use modulator::lfo::{LfoBuilder, LfoParameter};
 use names::OneModulator;
+use text::words::Words;
 use values::value::ModulatorId;
 
-#[derive(Clone, Copy)]
-pub enum ModulatorLine {
-    Is(ModulatorCommand),
-    No,
-}
-
 // The call tweener.add, behind its name.
-pub fn add_tweener_line(line: &[u8], at: usize) -> ModulatorLine
-    ensures { result ≡ add_tweener_line line.now at }
+#[tactic(auto, unfolding(crate::specs::ModulatorLines::add_tweener_line))]
+pub fn add_tweener_line(mut words: Words<'_>) -> Option<ModulatorCommand>
+    ensures { result ≡ add_tweener_line words.entry.line.now words.entry.at }
 {
-    let FloatAt::Is(x, to) = grammar::float(line, at) else {
-        return ModulatorLine::No;
-    };
-    if !grammar::ended(line, to) {
-        return ModulatorLine::No;
-    }
-    ModulatorLine::Is(ModulatorCommand::AddTweener(x))
+    let command = ModulatorCommand::AddTweener(grammar::float(&mut words)?);
+    grammar::ended(&words).then_some(command)
 }
 
 // The call lfo.add, behind its name.
-pub fn add_lfo_line(line: &[u8], at: usize) -> ModulatorLine
-    ensures { result ≡ add_lfo_line line.now at }
+#[tactic(auto, unfolding(crate::specs::ModulatorLines::add_lfo_line))]
+pub fn add_lfo_line(mut words: Words<'_>) -> Option<ModulatorCommand>
+    ensures { result ≡ add_lfo_line words.entry.line.now words.entry.at }
 {
-    let WaveAt::Is(waveform, a) = grammar::wave(line, at) else {
-        return ModulatorLine::No;
+    let lfo = LfoBuilder {
+        waveform: grammar::wave(&mut words)?,
+        frequency: grammar::value(&mut words)?,
+        amplitude: grammar::value(&mut words)?,
+        offset: grammar::value(&mut words)?,
+        starting_phase: grammar::float(&mut words)?,
     };
-    let FloatValueAt::Is(frequency, b) = grammar::float_value(line, a) else {
-        return ModulatorLine::No;
-    };
-    let FloatValueAt::Is(amplitude, c) = grammar::float_value(line, b) else {
-        return ModulatorLine::No;
-    };
-    let FloatValueAt::Is(offset, d) = grammar::float_value(line, c) else {
-        return ModulatorLine::No;
-    };
-    let FloatAt::Is(starting_phase, to) = grammar::float(line, d) else {
-        return ModulatorLine::No;
-    };
-    if !grammar::ended(line, to) {
-        return ModulatorLine::No;
-    }
-    ModulatorLine::Is(ModulatorCommand::AddLfo(LfoBuilder {
-        waveform,
-        frequency,
-        amplitude,
-        offset,
-        starting_phase,
-    }))
+    grammar::ended(&words).then_some(ModulatorCommand::AddLfo(lfo))
 }
 
-fn set_tweener(line: &[u8], at: usize, id: ModulatorId) -> ModulatorLine
-    ensures { result ≡ set_tweener_line line.now at id }
+#[tactic(auto, unfolding(crate::specs::ModulatorLines::set_tweener_line))]
+fn set_tweener(mut words: Words<'_>, id: ModulatorId) -> Option<ModulatorCommand>
+    ensures { result ≡ set_tweener_line words.entry.line.now words.entry.at id }
 {
-    let FloatAt::Is(x, a) = grammar::float(line, at) else {
-        return ModulatorLine::No;
-    };
-    let TweenAt::Is(t, to) = tween(line, a) else {
-        return ModulatorLine::No;
-    };
-    if !grammar::ended(line, to) {
-        return ModulatorLine::No;
-    }
-    ModulatorLine::Is(ModulatorCommand::SetTweener(id, x, t))
+    let command = ModulatorCommand::SetTweener(id, grammar::float(&mut words)?, tween(&mut words)?);
+    grammar::ended(&words).then_some(command)
 }
 
-fn set_parameter(line: &[u8], at: usize, id: ModulatorId, which: LfoParameter) -> ModulatorLine
-    ensures { result ≡ set_parameter_line line.now at id which }
+#[tactic(auto, unfolding(crate::specs::ModulatorLines::set_parameter_line))]
+fn set_parameter(
+    mut words: Words<'_>,
+    id: ModulatorId,
+    which: LfoParameter,
+) -> Option<ModulatorCommand>
+    ensures { result ≡ set_parameter_line words.entry.line.now words.entry.at id which }
 {
-    let FloatValueAt::Is(v, a) = grammar::float_value(line, at) else {
-        return ModulatorLine::No;
-    };
-    let TweenAt::Is(t, to) = tween(line, a) else {
-        return ModulatorLine::No;
-    };
-    if !grammar::ended(line, to) {
-        return ModulatorLine::No;
-    }
-    ModulatorLine::Is(ModulatorCommand::SetParameter(id, which, v, t))
+    let v = grammar::value(&mut words)?;
+    let t = tween(&mut words)?;
+    grammar::ended(&words).then_some(ModulatorCommand::SetParameter(id, which, v, t))
 }
 
-fn set_waveform(line: &[u8], at: usize, id: ModulatorId) -> ModulatorLine
-    ensures { result ≡ set_waveform_line line.now at id }
+#[tactic(auto, unfolding(crate::specs::ModulatorLines::set_waveform_line))]
+fn set_waveform(mut words: Words<'_>, id: ModulatorId) -> Option<ModulatorCommand>
+    ensures { result ≡ set_waveform_line words.entry.line.now words.entry.at id }
 {
-    let WaveAt::Is(w, to) = grammar::wave(line, at) else {
-        return ModulatorLine::No;
-    };
-    if !grammar::ended(line, to) {
-        return ModulatorLine::No;
-    }
-    ModulatorLine::Is(ModulatorCommand::SetWaveform(id, w))
+    let command = ModulatorCommand::SetWaveform(id, grammar::wave(&mut words)?);
+    grammar::ended(&words).then_some(command)
 }
 
-fn set_phase(line: &[u8], at: usize, id: ModulatorId) -> ModulatorLine
-    ensures { result ≡ set_phase_line line.now at id }
+#[tactic(auto, unfolding(crate::specs::ModulatorLines::set_phase_line))]
+fn set_phase(mut words: Words<'_>, id: ModulatorId) -> Option<ModulatorCommand>
+    ensures { result ≡ set_phase_line words.entry.line.now words.entry.at id }
 {
-    let FloatAt::Is(x, to) = grammar::float(line, at) else {
-        return ModulatorLine::No;
-    };
-    if !grammar::ended(line, to) {
-        return ModulatorLine::No;
-    }
-    ModulatorLine::Is(ModulatorCommand::SetPhase(id, x))
+    let command = ModulatorCommand::SetPhase(id, grammar::float(&mut words)?);
+    grammar::ended(&words).then_some(command)
 }
 
 // A call that takes an id and nothing else, as the command that it is.
-fn read(line: &[u8], at: usize, command: ModulatorCommand) -> ModulatorLine
-    ensures { result ≡ read_line line.now at command }
+#[tactic(auto, unfolding(crate::specs::ModulatorLines::read_line))]
+fn read(words: Words<'_>, command: ModulatorCommand) -> Option<ModulatorCommand>
+    ensures { result ≡ read_line words.entry.line.now words.entry.at command }
 {
-    if !grammar::ended(line, at) {
-        return ModulatorLine::No;
-    }
-    ModulatorLine::Is(command)
+    grammar::ended(&words).then_some(command)
 }
 
 // The calls whose first argument is an id, behind it.
-fn one(line: &[u8], at: usize, call: OneModulator, id: ModulatorId) -> ModulatorLine
-    ensures { result ≡ one_line line.now at call id }
+#[tactic(auto, unfolding(crate::specs::ModulatorLines::one_line))]
+fn one(words: Words<'_>, call: OneModulator, id: ModulatorId) -> Option<ModulatorCommand>
+    ensures { result ≡ one_line words.entry.line.now words.entry.at call id }
 {
     match call {
-        OneModulator::Set => set_tweener(line, at, id),
-        OneModulator::Freq => set_parameter(line, at, id, LfoParameter::Frequency),
-        OneModulator::Amp => set_parameter(line, at, id, LfoParameter::Amplitude),
-        OneModulator::Off => set_parameter(line, at, id, LfoParameter::Offset),
-        OneModulator::Wave => set_waveform(line, at, id),
-        OneModulator::Phase => set_phase(line, at, id),
-        OneModulator::Value => read(line, at, ModulatorCommand::Value(id)),
-        OneModulator::Drop => read(line, at, ModulatorCommand::Remove(id)),
+        OneModulator::Set => set_tweener(words, id),
+        OneModulator::Freq => set_parameter(words, id, LfoParameter::Frequency),
+        OneModulator::Amp => set_parameter(words, id, LfoParameter::Amplitude),
+        OneModulator::Off => set_parameter(words, id, LfoParameter::Offset),
+        OneModulator::Wave => set_waveform(words, id),
+        OneModulator::Phase => set_phase(words, id),
+        OneModulator::Value => read(words, ModulatorCommand::Value(id)),
+        OneModulator::Drop => read(words, ModulatorCommand::Remove(id)),
     }
 }
 
 // The same, behind their names.
-pub fn by_id_line(line: &[u8], at: usize, call: OneModulator) -> ModulatorLine
-    ensures { result ≡ by_id_line line.now at call }
+#[tactic(auto, unfolding(crate::specs::ModulatorLines::by_id_line))]
+pub fn by_id_line(mut words: Words<'_>, call: OneModulator) -> Option<ModulatorCommand>
+    ensures { result ≡ by_id_line words.entry.line.now words.entry.at call }
 {
-    let IdAt::Is(slot, generation, to) = grammar::id(line, at) else {
-        return ModulatorLine::No;
-    };
-    one(line, to, call, ModulatorId { slot, generation })
+    let (slot, generation) = grammar::id(&mut words)?;
+    one(words, call, ModulatorId { slot, generation })
 }

@@ -1,12 +1,12 @@
 // A tweener, as modulator/tweener.rs has it.
 ghost use Rattle.std.specs.Prelude.{◌≡◌};
-ghost use Rattle.modulator.specs.Tweeners.{new_tweener, tweener_to_of, tweener_faults, on_course, moved_of, update_tweener_of};
+ghost use Rattle.modulator.specs.Tweeners.{new_tweener, tweener_to_of, tweener_faults, update_tweener_of};
 
-use judge::{Faults, both, float_faults};
-use parameter::course::{Course, Stepped, amount, begin, step};
+use judge::{Faults, float_faults};
+use parameter::course::{Course, Stepped};
 use times::start_time::When;
 use times::tween::{Tween, tween_faults};
-use values::tweenable::interpolate;
+use values::tweenable::Tweenable;
 
 // A tween under way: from a value to a target.
 #[derive(Clone, Copy)]
@@ -16,6 +16,7 @@ pub struct TweenerMove {
     pub course: Course,
 }
 
+// Of the shape of Option, and no plainer as one: `self.state = None` would not say that the tweener is at rest.
 #[derive(Clone, Copy)]
 pub enum TweenerState {
     Idle,
@@ -28,72 +29,54 @@ pub struct Tweener {
     pub value: f64,
 }
 
-pub fn new_tweener(value: f64) -> Tweener
-    ensures { result ≡ new_tweener value }
-{
-    Tweener {
-        state: TweenerState::Idle,
-        value,
-    }
-}
-
 // What is wrong with a set.
 pub fn tweener_faults(target: f64, tween: Tween) -> Faults
     ensures { result ≡ tweener_faults target tween }
 {
-    both(float_faults(target), tween_faults(tween))
+    float_faults(target).and(tween_faults(tween))
 }
 
-// A tween from the present value to a target.
-pub fn tweener_to(t: Tweener, target: f64, tween: Tween) -> Tweener
-    ensures { result ≡ tweener_to_of target tween t }
-{
-    let course = begin(tween);
-    Tweener {
-        state: TweenerState::Tweening(TweenerMove {
-            start: t.value,
-            target,
-            course,
-        }),
-        value: t.value,
-    }
-}
-
-// A tweener with its course as it is by now, and a value.
-fn on_course(m: TweenerMove, course: Course, value: f64) -> Tweener
-    ensures { result ≡ on_course m course value }
-{
-    Tweener {
-        state: TweenerState::Tweening(TweenerMove {
-            start: m.start,
-            target: m.target,
-            course,
-        }),
-        value,
-    }
-}
-
-// One that waits keeps what it shows, and one that ends shows its target: RULES, tweener-update.
-fn moved(m: TweenerMove, dt: f64, when: When, value: f64) -> Tweener
-    ensures { result ≡ moved_of m dt when value }
-{
-    let course = m.course;
-    match step(course, dt, when) {
-        Stepped::Waits(c) => on_course(m, c, value),
-        Stepped::Goes(c) => on_course(m, c, interpolate(m.start, m.target, amount(c))),
-        Stepped::Ends => Tweener {
+impl Tweener {
+    pub fn new(value: f64) -> Tweener
+        ensures { result ≡ new_tweener value }
+    {
+        Tweener {
             state: TweenerState::Idle,
-            value: m.target,
-        },
+            value,
+        }
     }
-}
 
-pub fn update_tweener(t: Tweener, dt: f64, when: When) -> Tweener
-    ensures { result ≡ update_tweener_of t dt when }
-{
-    let state = t.state;
-    match state {
-        TweenerState::Idle => t,
-        TweenerState::Tweening(m) => moved(m, dt, when, t.value),
+    // A tween from the present value to a target.
+    pub fn set(&mut self, target: f64, tween: Tween)
+        ensures { self.new ≡ tweener_to_of target tween self.old }
+    {
+        self.state = TweenerState::Tweening(TweenerMove {
+            start: self.value,
+            target,
+            course: Course::begin(tween),
+        });
+    }
+
+    // One that waits keeps what it shows, and one that ends shows its target: RULES, tweener-update.
+    #[tactic(auto, unfolding(crate::specs::Tweeners::update_tweener_of, crate::specs::Tweeners::moved_of))]
+    pub fn update(&mut self, dt: f64, when: When)
+        ensures { self.new ≡ update_tweener_of self.old dt when }
+    {
+        let TweenerState::Tweening(m) = self.state else {
+            return;
+        };
+        match m.course.step(dt, when) {
+            Stepped::Waits(course) => {
+                self.state = TweenerState::Tweening(TweenerMove { course, ..m });
+            }
+            Stepped::Goes(course) => {
+                self.state = TweenerState::Tweening(TweenerMove { course, ..m });
+                self.value = f64::interpolate(m.start, m.target, course.amount());
+            }
+            Stepped::Ends => {
+                self.state = TweenerState::Idle;
+                self.value = m.target;
+            }
+        }
     }
 }

@@ -1,2 +1,1 @@
 pub mod ModulatorTables
-pub mod Sets

@@ -3,20 +3,21 @@
 use Rattle.std.specs.Prelude.{ℕ, replicate, Float}
 use Rattle.doubles.specs.Doubles.{zero_f}
 use Rattle.ids.specs.Keys.{left_at}
-use Rattle.ids.specs.Tables.{Table, Added, where_is, refused_call, on_found, changed, freed, read_found, added_to}
-use Rattle.ids.specs.declared.Placed.{Placed}
-use Rattle.judge.specs.Answer.{Answer, accepted, refused}
+use Rattle.ids.specs.Tables.{Table, Added, Done, where_is, refused_call, on_found, changed, freed, read_found, added_to}
+use Rattle.judge.specs.Answer.{Answer}
 use Rattle.judge.specs.Numbers.{NEVER_ISSUED}
 use Rattle.judge.specs.Judge.{float_faults, first_fault, decided}
 use Rattle.judge.specs.declared.Faults.{Faults}
 use Rattle.waveform.specs.Waves.{wave_faults}
 use Rattle.times.specs.declared.tween.Tween.{Tween}
-use Rattle.values.specs.declared.value.FloatValue.{FloatValue}
+use Rattle.values.specs.Tweenables.{float_tweens}
+use Rattle.values.specs.declared.value.Value.{Value}
 use Rattle.values.specs.declared.value.ModulatorId.{ModulatorId}
 use Rattle.waveform.specs.declared.Waveform.{Waveform}
-use Rattle.parameter.specs.FloatParameters.{set_of, target_faults}
+use Rattle.parameter.specs.Parameters.{target_faults}
 use Rattle.modulator.specs.Tweeners.{new_tweener, tweener_to_of, tweener_faults}
-use Rattle.modulator.specs.Lfos.{builder_faults, new_lfo, parameter_of, with_parameter_of, with_wave_of, with_phase_of}
+use Rattle.modulator.specs.Lfos.{builder_faults, new_lfo, with_wave_of, with_phase_of}
+pub use Rattle.modulator.specs.Lfos.{parameter_by}
 use Rattle.modulator.specs.declared.tweener.Tweener.{Tweener}
 use Rattle.modulator.specs.declared.lfo.LfoBuilder.{LfoBuilder}
 use Rattle.modulator.specs.declared.lfo.Lfo.{Lfo}
@@ -25,10 +26,6 @@ use Rattle.modulator_table.specs.declared.Modulator.{Modulator}
 use Rattle.modulator_table.specs.declared.Modulator.TheVariants.{OfTweener, OfLfo}
 use Rattle.modulator_table.specs.declared.Slot.{Slot}
 use Rattle.modulator_table.specs.declared.Modulators.{Modulators}
-use Rattle.modulator_table.specs.declared.ModulatorDone.{ModulatorDone}
-use Rattle.modulator_table.specs.declared.ModulatorNamed.{ModulatorNamed}
-use Rattle.modulator_table.specs.declared.ModulatorNamed.TheVariants as named
-use Rattle.modulator_table.specs.declared.ModulatorAdded.{ModulatorAdded}
 
 abbrev pub value_of : Modulator → Float
 value_of (OfTweener t) = t.value
@@ -45,6 +42,10 @@ slot_of m = record { modulator = m }
 abbrev pub no_modulators : Modulators
 no_modulators = record { keys = replicate 16 (left_at 0); slots = replicate 16 (slot_of (OfTweener (new_tweener zero_f))) }
 
+-- 0 or the number of a refusal, beside the table
+abbrev pub ModulatorDone : Type 0
+ModulatorDone = Done Modulators
+
 -- this kind of table: what the calls of both kinds share is said in `Tables` of the crate `ids`
 abbrev pub modulator_table : Table Modulators Slot ModulatorId ModulatorDone
 modulator_table = record {
@@ -59,13 +60,6 @@ modulator_table = record {
 
 -- ---- adding
 
-abbrev pub told_named : ModulatorNamed → Answer ModulatorId
-told_named (named.Is id) = accepted id
-told_named (named.Refused n) = refused n
-
-abbrev pub told_added : ModulatorAdded → Added Modulators ModulatorId
-told_added r = record { answer = told_named r.answer; table = r.table }
-
 -- a modulator with these faults
 abbrev pub put_of : Modulators → Faults → Modulator → Added Modulators ModulatorId
 put_of t f m = added_to modulator_table t f (slot_of m)
@@ -75,13 +69,6 @@ add_tweener_of t x = put_of t (float_faults x) (OfTweener (new_tweener x))
 
 unfoldable pub add_lfo_of : Modulators → LfoBuilder → Added Modulators ModulatorId
 add_lfo_of t b = put_of t (builder_faults b) (OfLfo (new_lfo b))
-
--- by a number: the id of a place, and the slot that is stored there
-abbrev pub named_by : Placed → Answer ModulatorId
-named_by p = decided p.refused (accepted (record { slot = p.slot; generation = p.key.generation })) refused
-
-abbrev pub slot_by : ℕ → Slot → Modulator → Slot
-slot_by n s m = decided n (slot_of m) (λ _. s)
 
 -- ---- by an id
 
@@ -114,14 +101,11 @@ set_tweener_of t id x w =
     on_modulator t (where_is modulator_table t id) (λ i m.
     on_tweener t m (λ old. change_judged t i (tweener_faults x w) (OfTweener (tweener_to_of x w old))))
 
--- an LFO with one of its parameters set: RULES, lfo-set
-abbrev pub parameter_by : Lfo → LfoParameter → FloatValue → Tween → Lfo
-parameter_by l k v w = with_parameter_of k (set_of (parameter_of l k) v w) l
-
-unfoldable pub set_parameter_of : Modulators → ModulatorId → LfoParameter → FloatValue → Tween → ModulatorDone
+-- RULES, lfo-set
+unfoldable pub set_parameter_of : Modulators → ModulatorId → LfoParameter → Value Float → Tween → ModulatorDone
 set_parameter_of t id k v w =
     on_modulator t (where_is modulator_table t id) (λ i m.
-    on_lfo t m (λ old. change_judged t i (target_faults v w) (OfLfo (parameter_by old k v w))))
+    on_lfo t m (λ old. change_judged t i (target_faults float_tweens v w) (OfLfo (parameter_by old k v w))))
 
 unfoldable pub set_waveform_of : Modulators → ModulatorId → Waveform → ModulatorDone
 set_waveform_of t id w =

@@ -3,7 +3,7 @@ use Prim.Native.Nat.{ℕ}
 use mathlib.Core.Path.{◌≡◌, refl}
 use mathlib.Core.Bool.{Bool, true, not, ◌&&◌}
 use mathlib.Core.List.{List, [], ◌∷◌}
-use Rattle.grammar.specs.Grammar.{same_bytes}
+use Rattle.text.specs.Words.{same_bytes}
 use Rattle.names.specs.Names.{Row, rows}
 
 -- whether no row has this name

@@ -1,6 +1,6 @@
 -- The names of the calls of docs/BENCH.md, each by its bytes, and the call that each is. Assumes nothing.
-use Rattle.std.specs.Prelude.{ℕ, cond, List, [], ◌∷◌, ◌++◌}
-use Rattle.grammar.specs.Grammar.{same_bytes}
+use Rattle.std.specs.Prelude.{ℕ, cond, List, [], ◌∷◌, ◌++◌, Option, None, Some}
+use Rattle.text.specs.Words.{same_bytes}
 use Rattle.names.specs.declared.Call.{Call}
 use Rattle.names.specs.declared.Call.TheVariants as call
 use Rattle.names.specs.declared.CurveCall.TheVariants as curve
@@ -422,15 +422,15 @@ rows_w =
 abbrev pub rows : List Row
 rows = rows_c ++ (rows_d ++ (rows_e ++ (rows_f ++ (rows_l ++ (rows_m ++ (rows_n ++ (rows_s ++ (rows_t ++ (rows_v ++ rows_w)))))))))
 
--- one row: its call, where the word is its name
-unfoldable pub row_of : List ℕ → List ℕ → Call → Call → Call
-row_of w name call other = cond (same_bytes w name) call other
+-- one row: its call, where the word is its name, and else what the other rows say
+unfoldable pub row_of : List ℕ → List ℕ → Call → Option Call → Option Call
+row_of w name call other = cond (same_bytes w name) (Some call) other
 
--- the call of the row whose name the word is, and the other one where there is no such row. No name stands twice:
--- `once` in proofs/Once.antt
-unfoldable pub call_in : List ℕ → Call → List Row → Call
-call_in w other [] = other
-call_in w other (r ∷ rs) = call_in w (row_of w r.name r.call other) rs
+-- the call of the row whose name the word is, where there is such a row. No name stands twice: `once` in
+-- proofs/Once.antt
+unfoldable pub call_in : List ℕ → List Row → Option Call
+call_in w [] = None
+call_in w (r ∷ rs) = row_of w r.name r.call (call_in w rs)
 
-unfoldable pub call_of : List ℕ → Call
-call_of w = call_in w call.None rows
+unfoldable pub call_of : List ℕ → Option Call
+call_of w = call_in w rows

@@ -1,3 +1,2 @@
 pub mod Courses
-pub mod FloatParameters
-pub mod SpeedParameters
+pub mod Parameters

@@ -1,6 +1,6 @@
-// The timing of a tween under way: what parameters of both kinds and tweeners share.
+// The timing of a tween under way: what parameters and tweeners share.
 ghost use Rattle.std.specs.Prelude.{◌≡◌};
-ghost use Rattle.parameter.specs.Courses.{new_course, is_now, started_of, waited_of, step_of, amount_at};
+ghost use Rattle.parameter.specs.Courses.{new_course, started_of, waited_of, step_of, amount_at};
 
 use times::duration::as_secs_f64;
 use times::start_time::{StartTime, When, shorter};
@@ -21,31 +21,15 @@ pub enum Stepped {
     Ends,
 }
 
-pub fn begin(tween: Tween) -> Course
-    ensures { result ≡ new_course tween }
-{
-    Course { tween, time: 0.0 }
-}
-
-fn is_now(when: When) -> bool
-    ensures { result ≡ is_now when }
-{
-    match when {
-        When::Now => true,
-        When::Later => false,
-        When::Never => false,
-    }
-}
-
 // The start test. It is asked at every update, of a tween that has begun too. `when` is read where the
-// start is a clock time.
+// start is a clock time. Each kind of start has a test of its own, so it is no one `matches!`.
 pub fn started(start: StartTime, when: When) -> bool
     ensures { result ≡ started_of start when }
 {
     match start {
         StartTime::Immediate => true,
         StartTime::Delayed(ns) => ns == 0,
-        StartTime::At(_) => is_now(when),
+        StartTime::At(_) => matches!(when, When::Now),
     }
 }
 
@@ -55,41 +39,42 @@ fn waited(start: StartTime, dt: f64) -> StartTime
     ensures { result ≡ waited_of start dt }
 {
     match start {
-        StartTime::Immediate => StartTime::Immediate,
         StartTime::Delayed(ns) => StartTime::Delayed(shorter(ns, dt)),
-        StartTime::At(t) => StartTime::At(t),
+        StartTime::Immediate | StartTime::At(_) => start,
     }
 }
 
-// One update.
-pub fn step(c: Course, dt: f64, when: When) -> Stepped
-    ensures { result ≡ step_of c dt when }
-{
-    let tween = c.tween;
-    let start = tween.start_time;
-    if started(start, when) {
-        let time = c.time + dt;
+impl Course {
+    pub fn begin(tween: Tween) -> Course
+        ensures { result ≡ new_course tween }
+    {
+        Course { tween, time: 0.0 }
+    }
+
+    // One update.
+    pub fn step(self, dt: f64, when: When) -> Stepped
+        ensures { result ≡ step_of self dt when }
+    {
+        let Course { tween, time } = self;
+        if !started(tween.start_time, when) {
+            let start_time = waited(tween.start_time, dt);
+            let tween = Tween {
+                start_time,
+                ..tween
+            };
+            return Stepped::Waits(Course { tween, time });
+        }
+        let time = time + dt;
         if time >= as_secs_f64(tween.duration) {
             return Stepped::Ends;
         }
-        return Stepped::Goes(Course { tween, time });
+        Stepped::Goes(Course { tween, time })
     }
-    let easing = tween.easing;
-    let later = Tween {
-        start_time: waited(start, dt),
-        duration: tween.duration,
-        easing,
-    };
-    Stepped::Waits(Course {
-        tween: later,
-        time: c.time,
-    })
-}
 
-// How far the tween has come, eased.
-pub fn amount(c: Course) -> f64
-    ensures { result ≡ amount_at c }
-{
-    let tween = c.tween;
-    tween_value(tween, c.time)
+    // How far the tween has come, eased.
+    pub fn amount(self) -> f64
+        ensures { result ≡ amount_at self }
+    {
+        tween_value(self.tween, self.time)
+    }
 }

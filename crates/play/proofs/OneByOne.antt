@@ -29,11 +29,10 @@ use Rattle.recording.specs.Writings.{written_of, Writable, All}
 use Rattle.recording.proofs.Written.{read_back, whole_back}
 use Rattle.laws.proofs.Refusals.{refusal_numbered}
 use Rattle.play.specs.Asked.{double_of, id_of, speed_of, no_time, call_by, call_of, is_of, number_for, number_on, taken_on}
-use Rattle.play.specs.Replays.{whole, at_record, Ended, on_answer, end_of, replayed, replay_of}
+use Rattle.play.specs.Replays.{whole, at_record, Ended, on_answer, end_of, Replayed, replayed, replay_of}
 use Rattle.play.specs.OneByOne.{awaited_by, Accepts, OtherId, Refuses, AllAccepted, EndsWith, Answers, EndsAlike, Noted}
 use Rattle.play.specs.declared.Place.TheVariants as place
-use Rattle.play.specs.declared.Replayed.{Replayed}
-use Rattle.play.specs.declared.Verdict.TheVariants as verdict
+use Rattle.play.specs.Verdicts as verdict
 
 false_is : false ≡ true → ⊥
 false_is e = let z : ◌≡◌ {A = ℕ} 0 1 = cc in absurd (omega arith)

@@ -15,8 +15,8 @@ use Rattle.judge.specs.Answer.{accepted}
 use Rattle.judge.specs.Judge.{number_of, first_fault}
 use Rattle.times.specs.declared.time.ClockId.{ClockId}
 use Rattle.values.specs.declared.clock_speed.ClockSpeed.TheVariants.{TicksPerSecond}
-use Rattle.values.specs.declared.value.SpeedValue.TheVariants.{Fixed}
-use Rattle.parameter.specs.SpeedParameters as speeds
+use Rattle.values.specs.declared.value.Value.TheVariants.{Fixed}
+use Rattle.parameter.specs.Parameters.{update_of}
 use Rattle.clock.specs.OneClock.{tick_of, update_clock_of}
 use Rattle.clock_table.specs.ClockTables.{add_clock_of, remove_of, tick_on_of, clock_time_of}
 use Rattle.commands.specs.ClockCommands.{run_clock_of}
@@ -29,16 +29,17 @@ use Rattle.record.specs.declared.Record.{Record}
 use Rattle.run.specs.Runs.{after_all}
 use Rattle.run.specs.declared.Call.{Call}
 use Rattle.run.specs.declared.Call.TheVariants as call
-use Rattle.record.specs.Fields.{same_bytes, begins, decimal_behind, hex_behind}
+use Rattle.record.specs.Fields.{begins, decimal_behind, hex_behind}
 use Rattle.record.specs.Records.{«op=add», «op=drop», «op=stop», «slot=», «gen=», «arg=», op_of, judge_of}
 use Rattle.recording.specs.Recordings.{lines_from, tape_of}
 use Rattle.recording.specs.Writings.{Writable, All, ended, written_of}
+use Rattle.text.specs.Words.{same_bytes}
 use Rattle.text.specs.Numbers.{decimal_of, hex16_of, number_from}
 use Rattle.play.specs.Asked.{number_on, taken_on}
 use Rattle.play.specs.Replays.{end_of, replay_of}
 use Rattle.play.specs.OneByOne.{Noted}
-use Rattle.play.specs.declared.Verdict.{Verdict}
-use Rattle.play.specs.declared.Verdict.TheVariants as verdict
+use Rattle.play.specs.Verdicts.{Verdict}
+use Rattle.play.specs.Verdicts as verdict
 use Rattle.play.specs.declared.Place.TheVariants as place
 use Rattle.play.proofs.OneByOne.{recorded_run}
 
@@ -69,7 +70,7 @@ calls =
     ∷ []
 
 pub noted : Noted fresh_station calls shift
-unfolding Noted of_bits number_of first_fault add sub mul lt le eq to_unsigned free_of lives_in standing_of find_of read_at room_for taken_of tick_of update_clock_of add_clock_of tick_on_of run_clock_of speeds.update_of info_in turn_clock modulator_turns modulators_turned clock_turns clocks_turned frame_of
+unfolding Noted of_bits number_of first_fault add sub mul lt le eq to_unsigned free_of lives_in standing_of find_of read_at room_for taken_of tick_of update_clock_of add_clock_of tick_on_of run_clock_of update_of info_in turn_clock modulator_turns modulators_turned clock_turns clocks_turned frame_of
 noted = (refl, refl, (refl, refl, (refl, refl, (refl, refl, (refl, refl, tt)))))
 
 pub replayed : replay_of (written_of shift) ≡ record { station = after_all fresh_station calls; verdict = verdict.Accepted }
@@ -80,7 +81,7 @@ abbrev stands : ℕ → ℕ → Type 0
 stands s n = clock_time_of (after_all fresh_station calls).clocks (id s 1) ≡ accepted record { clock = id s 1; ticks = n; fraction = zero_f }
 
 pub two_motors : stands 0 1 × stands 1 2
-unfolding after_all clock_time_of of_bits number_of first_fault add sub mul lt le eq to_unsigned free_of lives_in standing_of find_of read_at room_for taken_of tick_of update_clock_of add_clock_of tick_on_of run_clock_of speeds.update_of info_in turn_clock modulator_turns modulators_turned clock_turns clocks_turned frame_of
+unfolding after_all clock_time_of of_bits number_of first_fault add sub mul lt le eq to_unsigned free_of lives_in standing_of find_of read_at room_for taken_of tick_of update_clock_of add_clock_of tick_on_of run_clock_of update_of info_in turn_clock modulator_turns modulators_turned clock_turns clocks_turned frame_of
 two_motors = (refl, refl)
 
 -- ---- refusals

@@ -1,18 +1,20 @@
 -- 02, the replay of a shift: the call that a record asks for, and by which number the record is refused: RULES,
 -- record-call and wrong-id. Assumes nothing.
-use Rattle.std.specs.Prelude.{ℕ, cond, ◌&&◌, eqb, Float}
+use Rattle.std.specs.Prelude.{ℕ, cond, ◌&&◌, eqb, Float, Result, Ok, Err}
 use Rattle.std.specs.Float.{binary64}
 use Rattle.std.specs.Float.Ieee.{of_bits}
-use Rattle.judge.specs.Answer.{Answer, accepted, refused}
+use Rattle.judge.specs.Answer.{Answer, accepted, refused, number_of_refusal}
+use Rattle.judge.specs.declared.Refusal.{Refusal}
 use Rattle.judge.specs.Judge.{decided}
 use Rattle.judge.specs.Numbers.{WRONG_ID}
 use Rattle.times.specs.declared.time.ClockId.{ClockId}
 use Rattle.times.specs.declared.start_time.StartTime.TheVariants.{Immediate}
 use Rattle.times.specs.declared.tween.Easing.TheVariants.{Linear}
 use Rattle.times.specs.declared.tween.Tween.{Tween}
+use Rattle.values.specs.declared.clock_speed.ClockSpeed.{ClockSpeed}
 use Rattle.values.specs.declared.clock_speed.ClockSpeed.TheVariants.{TicksPerSecond}
-use Rattle.values.specs.declared.value.SpeedValue.{SpeedValue}
-use Rattle.values.specs.declared.value.SpeedValue.TheVariants.{Fixed}
+use Rattle.values.specs.declared.value.Value.{Value}
+use Rattle.values.specs.declared.value.Value.TheVariants.{Fixed}
 use Rattle.commands.specs.Answers.{of_clock, of_modulator, Given, done, named, time, flag, speed, value}
 use Rattle.commands.specs.declared.clock_command.ClockCommand.TheVariants as command
 use Rattle.station.specs.declared.Station.{Station}
@@ -22,8 +24,6 @@ use Rattle.run.specs.declared.Call.TheVariants as call
 use Rattle.record.specs.declared.Op.{Op}
 use Rattle.record.specs.declared.Op.TheVariants as op
 use Rattle.record.specs.declared.Record.{Record}
-use Rattle.play.specs.declared.Asked.{Asked}
-use Rattle.play.specs.declared.Asked.TheVariants as asked
 
 -- ---- the call
 
@@ -35,7 +35,7 @@ abbrev pub id_of : Record → ClockId
 id_of r = record { slot = r.slot; generation = r.generation }
 
 -- it is ticks per second where a speed is asked for
-abbrev pub speed_of : Record → SpeedValue
+abbrev pub speed_of : Record → Value ClockSpeed
 speed_of r = Fixed (TicksPerSecond (double_of r))
 
 -- a tween that starts at once and takes no time
@@ -53,12 +53,6 @@ call_by r op.Frame = call.Frame (double_of r)
 
 abbrev pub call_of : Record → Call
 call_of r = call_by r r.op
-
--- the same as the code has it, with adds apart from the other commands
-abbrev pub call_as : Asked → Call
-call_as (asked.Add v) = call.Clock (command.Add v)
-call_as (asked.Command c) = call.Clock c
-call_as (asked.Frame dt) = call.Frame dt
 
 -- ---- what comes of it
 
@@ -83,3 +77,8 @@ number_on st r = number_for r (told st (call_of r))
 -- the station that an accepted record leaves, or the number of its refusal
 unfoldable pub taken_on : Station → Record → Answer Station
 taken_on st r = decided (number_on st r) (accepted (after st (call_of r))) refused
+
+-- the same as the code tells it: the station that is left where the record is accepted, or its refusal
+abbrev pub taken : Result (Unit {0}) Refusal → Station → Answer Station
+taken (Ok i) st = accepted st
+taken (Err r) st = refused (number_of_refusal r)

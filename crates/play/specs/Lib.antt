@@ -1,3 +1,4 @@
 pub mod Asked
+pub mod Verdicts
 pub mod Replays
 pub mod OneByOne

@@ -12,9 +12,9 @@ use Rattle.record.specs.declared.Record.{Record}
 use Rattle.recording.specs.Recordings.{Tape, next, over, unfinished, trace, records_of}
 use Rattle.play.specs.Asked.{call_of}
 use Rattle.play.specs.declared.Place.TheVariants as place
-use Rattle.play.specs.declared.Replayed.{Replayed}
-use Rattle.play.specs.declared.Verdict.{Verdict}
-use Rattle.play.specs.declared.Verdict.TheVariants as verdict
+use Rattle.play.specs.Replays.{Replayed}
+use Rattle.play.specs.Verdicts.{Verdict}
+use Rattle.play.specs.Verdicts as verdict
 
 -- ---- one record, by what its call answers
 

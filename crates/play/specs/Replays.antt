@@ -1,17 +1,18 @@
 -- 02, the replay of a shift: a recording's records one after the other, up to the first refusal, and what is answered:
 -- RULES, replay and trace. Assumes nothing.
-use Rattle.std.specs.Prelude.{ℕ, ◌+◌, List, length}
-use Rattle.judge.specs.Answer.{Answer, accepted, refused}
+use Rattle.std.specs.Prelude.{ℕ, ◌+◌, List, length, Result, Ok, Err}
+use Rattle.judge.specs.Answer.{Answer, accepted, refused, number_of_refusal}
 use Rattle.station.specs.Stations.{fresh_station}
 use Rattle.station.specs.declared.Station.{Station}
 use Rattle.record.specs.declared.Record.{Record}
 use Rattle.recording.specs.Recordings.{Tape, next, over, unfinished, trace, tape_at, ReadTold, recorded, ended, refused_at, told_read}
 use Rattle.recording.specs.declared.Read.TheVariants as read
 use Rattle.play.specs.Asked.{taken_on}
-use Rattle.play.specs.declared.Verdict.{Verdict}
-use Rattle.play.specs.declared.Verdict.TheVariants as verdict
+use Rattle.play.specs.Verdicts.{Verdict}
+use Rattle.play.specs.Verdicts as verdict
 use Rattle.play.specs.declared.Place.TheVariants as place
-use Rattle.play.specs.declared.Replayed.{Replayed}
+use Rattle.play.specs.declared.Refused.{Refused}
+use Rattle.play.specs.declared.Replayed as code
 
 -- ---- on a state of any kind: all that is known of it is what a record makes of it
 
@@ -41,6 +42,11 @@ module _ {S : Type 0} (take : S → Record → Answer S) where
 
 -- ---- the answer
 
+-- where a replay ended, and what it answers
+pub record Replayed : Type 0 where
+  pub station : Station
+  pub verdict : Verdict
+
 -- a refusal to read on, at a byte
 abbrev pub at_byte : ReadTold → Verdict
 at_byte (recorded r behind) = verdict.Accepted
@@ -61,3 +67,12 @@ replayed n e = record { station = e.state; verdict = verdict_of n e.ending }
 
 unfoldable pub replay_of : List ℕ → Replayed
 replay_of s = replayed (length s) (end_of taken_on 0 fresh_station (tape_at s 0))
+
+-- ---- the same as the code tells it
+
+abbrev pub told_verdict : Result (Unit {0}) Refused → Verdict
+told_verdict (Ok i) = verdict.Accepted
+told_verdict (Err r) = verdict.Refused (number_of_refusal r.why) r.place
+
+abbrev pub told_replay : code.Replayed → Replayed
+told_replay r = record { station = r.station; verdict = told_verdict r.verdict }

@@ -2,202 +2,135 @@
 // first refusal. RULES, replay.
 #![tactic(auto)]
 
-ghost use Rattle.std.specs.Prelude.{◌≡◌};
-ghost use Rattle.judge.specs.Numbers.{«TRACE»};
-ghost use Rattle.commands.specs.Answers.{told_answer};
-ghost use Rattle.commands.specs.ClockCommands.{run_clock_of};
-ghost use Rattle.station.specs.Frames.{frame_of};
-ghost use Rattle.play.specs.Asked.{call_of, call_as, number_for};
-ghost use Rattle.play.specs.Replays.{replay_of};
-ghost use Rattle.play.specs.declared.Verdict.TheVariants.{Refused};
+ghost use Rattle.std.specs.Prelude.{◌≡◌, OnErr, length};
+ghost use Rattle.judge.specs.declared.Refusal.TheVariants.{Trace};
 ghost use Rattle.play.specs.declared.Place.TheVariants as place;
+ghost use Rattle.play.specs.Asked.{id_of, speed_of, no_time, taken, taken_on};
+ghost use Rattle.play.specs.Replays.{told_verdict, told_replay, end_of, replayed, replay_of};
+ghost use Rattle.recording.specs.Recordings.{tape_at};
 
-use clock_table::Clocks;
-use commands::CallAnswer;
-use commands::clock_command::{ClockCommand, run_clock};
-use judge::{TRACE, WRONG_ID};
-use modulator_table::Modulators;
+use judge::Refusal;
 use record::{Op, Record};
 use recording::Read;
-use station::frame::{Framed, frame};
-use station::{Station, fresh};
+use station::Station;
 use times::start_time::StartTime;
 use times::time::ClockId;
 use times::tween::{Easing, Tween};
 use values::clock_speed::ClockSpeed;
-use values::value::SpeedValue;
+use values::value::Value;
 
 // Where a replay was refused: at a byte of the recording, or in a record, by its number.
-#[derive(Clone, Copy)]
+#[derive(Clone, Copy, Debug, PartialEq, Eq)]
 pub enum Place {
     Byte(usize),
     Record(usize),
 }
 
-#[derive(Clone, Copy)]
-pub enum Verdict {
-    Accepted,
-    Refused(u32, Place),
+#[derive(Clone, Copy, Debug, PartialEq, Eq)]
+pub struct Refused {
+    pub why: Refusal,
+    pub place: Place,
 }
 
 // Where a replay ended, and what was refused. The station is then the one from before the refused record.
 #[derive(Clone, Copy)]
 pub struct Replayed {
     pub station: Station,
-    pub verdict: Verdict,
+    pub verdict: Result<(), Refused>,
 }
 
-// What a record asks of a station. An add is a case of its own for `replay`, which says why.
-#[derive(Clone, Copy)]
-enum Asked {
-    Add(SpeedValue),
-    Command(ClockCommand),
-    Frame(f64),
-}
-
-// What a command makes of the clocks, and the number that its record is given.
-#[derive(Clone, Copy)]
-struct Commanded {
-    number: u32,
-    clocks: Clocks,
-}
-
-// A speed is in ticks per second, and is set by a linear tween that starts at once and takes no time.
-fn call_of(r: Record) -> Asked
-    ensures { call_as result ≡ call_of r }
+fn id_of(r: Record) -> ClockId
+    ensures { result ≡ id_of r }
 {
-    let op = r.op;
-    let x = doubles::of_bits(r.arg);
-    let id = ClockId {
+    ClockId {
         slot: r.slot,
         generation: r.generation,
-    };
-    let speed = SpeedValue::Fixed(ClockSpeed::TicksPerSecond(x));
-    let tween = Tween {
+    }
+}
+
+// A speed is in ticks per second.
+fn speed_of(r: Record) -> Value<ClockSpeed>
+    ensures { result ≡ speed_of r }
+{
+    Value::Fixed(ClockSpeed::TicksPerSecond(doubles::of_bits(r.arg)))
+}
+
+// It is set by a linear tween that starts at once and takes no time.
+fn no_time() -> Tween
+    ensures { result ≡ no_time }
+{
+    Tween {
         start_time: StartTime::Immediate,
         duration: 0,
         easing: Easing::Linear,
-    };
-    match op {
-        Op::Add => Asked::Add(speed),
-        Op::Drop => Asked::Command(ClockCommand::Remove(id)),
-        Op::Start => Asked::Command(ClockCommand::Start(id)),
-        Op::Stop => Asked::Command(ClockCommand::Stop(id)),
-        Op::Reset => Asked::Command(ClockCommand::Reset(id)),
-        Op::Speed => Asked::Command(ClockCommand::SetSpeed(id, speed, tween)),
-        Op::Frame => Asked::Frame(x),
     }
 }
 
-// The call's own number, then WRONG_ID where it gave another id than the record's; 0 where the record is accepted.
-fn number_for(r: Record, answer: CallAnswer) -> u32
-    ensures { result ≡ number_for r (told_answer answer) }
+// A record's call on a station. An add is made on a copy of the clocks, since one that gives another id than the
+// record's leaves them.
+fn take(st: &mut Station, r: Record) -> Result<(), Refusal>
+    ensures { (taken result st.new ≡ taken_on st.old r) × OnErr result (st.new ≡ st.old) }
 {
-    match answer {
-        CallAnswer::Refused(n) => n,
-        CallAnswer::Clock(id) => {
-            if id.slot != r.slot {
-                return WRONG_ID;
+    match r.op {
+        Op::Add => {
+            let mut clocks = st.clocks;
+            if clocks.add(speed_of(r))? != id_of(r) {
+                return Err(Refusal::WrongId);
             }
-            if id.generation != r.generation {
-                return WRONG_ID;
-            }
-            0
+            st.clocks = clocks;
+            Ok(())
         }
-        CallAnswer::Done => 0,
-        CallAnswer::Modulator(_) => 0,
-        CallAnswer::Time(_) => 0,
-        CallAnswer::Flag(_) => 0,
-        CallAnswer::Speed(_) => 0,
-        CallAnswer::Value(_) => 0,
+        Op::Drop => st.clocks.remove(id_of(r)),
+        Op::Start => st.clocks.start(id_of(r)),
+        Op::Stop => st.clocks.stop(id_of(r)),
+        Op::Reset => st.clocks.reset(id_of(r)),
+        Op::Speed => st.clocks.set_speed(id_of(r), speed_of(r), no_time()),
+        Op::Frame => {
+            st.frame(doubles::of_bits(r.arg))?;
+            Ok(())
+        }
     }
 }
 
-// A record's command on the clocks. Where the number is not 0, the clocks are not the replay's.
-fn command(t: Clocks, r: Record, c: ClockCommand) -> Commanded
-    ensures { (result.number ≡ number_for r (run_clock_of t c).answer) × (result.clocks ≡ (run_clock_of t c).table) }
+// A line that is not one of a record, or a recording that ends inside one.
+fn trace(at: usize) -> Refused
+    ensures { result ≡ record { why = Trace; place = place.Byte at } }
 {
-    let ran = run_clock(t, c);
-    let answer = ran.answer;
-    let clocks = ran.table;
-    Commanded {
-        number: number_for(r, answer),
-        clocks,
+    Refused {
+        why: Refusal::Trace,
+        place: Place::Byte(at),
     }
 }
 
-fn framed(clocks: Clocks, modulators: Modulators, dt: f64) -> Framed
-    ensures { result ≡ frame_of (record { clocks = clocks; modulators = modulators }) dt }
+// Every record of a recording, up to the first that is refused.
+fn records(st: &mut Station, s: &[u8]) -> Result<(), Refused>
+    ensures { record { station = st.new; verdict = told_verdict result } ≡ replayed (length s.now) (end_of taken_on 0 st.old (tape_at s.now 0)) }
 {
-    frame(Station { clocks, modulators }, dt)
-}
-
-fn at_byte(at: usize) -> Verdict
-    ensures { result ≡ Refused «TRACE» (place.Byte at) }
-{
-    Verdict::Refused(TRACE, Place::Byte(at))
-}
-
-fn in_record(n: u32, k: usize) -> Verdict
-    ensures { result ≡ Refused n (place.Record k) }
-{
-    Verdict::Refused(n, Place::Record(k))
-}
-
-fn ended(clocks: Clocks, modulators: Modulators, verdict: Verdict) -> Replayed
-    ensures { result ≡ record { station = record { clocks = clocks; modulators = modulators }; verdict = verdict } }
-{
-    Replayed {
-        station: Station { clocks, modulators },
-        verdict,
-    }
-}
-
-// Every record of a recording on a fresh station, up to the first that is refused. The two tables are apart: a command
-// moves the clocks alone. `command` is called in two places, so that the compiled program has it once and moves the
-// clocks as a block (docs/SPEED.md).
-pub fn replay(s: &[u8]) -> Replayed
-    ensures { result ≡ replay_of s.now }
-{
-    let first = fresh();
-    let mut clocks = first.clocks;
-    let mut modulators = first.modulators;
     let mut at: usize = 0;
     let mut count: usize = 0;
+    // No `for`: where the next record begins, only the record before says.
     loop {
         match recording::record_at(s, at) {
             Read::Record(r, behind) => {
-                match call_of(r) {
-                    Asked::Add(speed) => {
-                        let added = command(clocks, r, ClockCommand::Add(speed));
-                        if added.number != 0 {
-                            return ended(clocks, modulators, in_record(added.number, count));
-                        }
-                        clocks = added.clocks;
-                    }
-                    Asked::Command(c) => {
-                        let done = command(clocks, r, c);
-                        if done.number != 0 {
-                            return ended(clocks, modulators, in_record(done.number, count));
-                        }
-                        clocks = done.clocks;
-                    }
-                    Asked::Frame(dt) => {
-                        let turned = framed(clocks, modulators, dt);
-                        if turned.refused != 0 {
-                            return ended(clocks, modulators, in_record(turned.refused, count));
-                        }
-                        let moved = turned.station;
-                        clocks = moved.clocks;
-                        modulators = moved.modulators;
-                    }
+                if let Err(why) = take(st, r) {
+                    let place = Place::Record(count);
+                    return Err(Refused { why, place });
                 }
                 at = behind;
                 count += 1;
             }
-            Read::End => return ended(clocks, modulators, Verdict::Accepted),
-            Read::Unfinished => return ended(clocks, modulators, at_byte(s.len())),
-            Read::Bad(place) => return ended(clocks, modulators, at_byte(place)),
+            Read::End => return Ok(()),
+            Read::Unfinished => return Err(trace(s.len())),
+            Read::Bad(place) => return Err(trace(place)),
         }
     }
+}
+
+// A recording on a fresh station.
+pub fn replay(s: &[u8]) -> Replayed
+    ensures { told_replay result ≡ replay_of s.now }
+{
+    let mut station = Station::new();
+    let verdict = records(&mut station, s);
+    Replayed { station, verdict }
 }

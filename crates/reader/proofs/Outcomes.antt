@@ -17,9 +17,9 @@ use denote.Triple.Clauses.{Clauses, Ended, AtExit}
 use denote.Triple.Entry.{Args, Res}
 use Rattle.doubles.proofs.Outcomes.{equal}
 use Rattle.reader.specs.declared.Reader.{Reader}
-use Rattle.reader.specs.contracts.new as new
-use Rattle.reader.specs.contracts.next as next
-use Rattle.reader.specs.contracts.moved as moved
+use Rattle.reader.specs.contracts.Reader.new as new
+use Rattle.reader.specs.contracts.Reader.next as next
+use Rattle.reader.specs.contracts.Reader.moved as moved
 
 module _ (T : Ended) (c : (M : Type 1) (𝓤 : Ura M) (𝓛 : Logic 𝓤) → (Memory → SProp 𝓤) → (Routine → Fun 𝓤) → Clauses 𝓤 T) where
   abbrev S : Signature

@@ -3,7 +3,6 @@
 #![tactic(auto)]
 
 ghost use Rattle.std.specs.Prelude.{◌≡◌};
-ghost use Rattle.recording.specs.Recordings.{record_at};
 
 use recording::Read;
 
@@ -13,23 +12,27 @@ pub struct Reader<'a> {
     pub at: usize,
 }
 
-// A reader at a recording's start.
-pub fn new<'a>(trace: &'a [u8]) -> Reader<'a>
-    ensures { (result.trace ≡ trace.entry) × (result.at ≡ 0) }
-{
-    Reader { trace, at: 0 }
-}
+impl<'a> Reader<'a> {
+    ghost use Rattle.recording.specs.Recordings.{record_at};
 
-// What stands at the reader's place.
-pub fn next<'a>(r: Reader<'a>) -> Read
-    ensures { result ≡ record_at r.entry.trace.now r.entry.at }
-{
-    recording::record_at(r.trace, r.at)
-}
+    // A reader at a recording's start.
+    pub fn new(trace: &'a [u8]) -> Reader<'a>
+        ensures { (result.trace ≡ trace.entry) × (result.at ≡ 0) }
+    {
+        Reader { trace, at: 0 }
+    }
 
-// The reader at another place of its recording.
-pub fn moved<'a>(r: Reader<'a>, at: usize) -> Reader<'a>
-    ensures { (result.trace ≡ r.entry.trace) × (result.at ≡ at) }
-{
-    Reader { trace: r.trace, at }
+    // What stands at the reader's place.
+    pub fn next(&self) -> Read
+        ensures { result ≡ record_at self.now.trace.now self.now.at }
+    {
+        recording::record_at(self.trace, self.at)
+    }
+
+    // The reader at another place of its recording.
+    pub fn moved(self, at: usize) -> Reader<'a>
+        ensures { (result.trace ≡ self.entry.trace) × (result.at ≡ at) }
+    {
+        Reader { at, ..self }
+    }
 }

@@ -1,3 +1,3 @@
--- `Lines` on bytes that are the same, `Outcomes` on the statements themselves.
+-- `Lines` on what stands behind a name, `Outcomes` on the statements themselves.
 pub mod Lines
 pub mod Outcomes

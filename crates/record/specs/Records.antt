@@ -1,11 +1,7 @@
 -- 02, the replay of a shift: a record's four lines, each without its LF: RULES, record and record-limits. Assumes
 -- nothing.
-use Rattle.std.specs.Prelude.{ℕ, ◌-◌, ◌^◌, Bool, true, false, cond, List, [], ◌∷◌}
-use Rattle.text.specs.declared.Number.{Number}
-use Rattle.text.specs.declared.Number.TheVariants as number
+use Rattle.std.specs.Prelude.{ℕ, ◌-◌, ◌^◌, Bool, true, false, cond, List, [], ◌∷◌, Option, None, Some}
 use Rattle.record.specs.Fields.{same_bytes, decimal_behind, hex_behind}
-use Rattle.record.specs.declared.field.Small.{Small}
-use Rattle.record.specs.declared.field.Small.TheVariants as small
 use Rattle.record.specs.declared.Op.{Op}
 use Rattle.record.specs.declared.Op.TheVariants as op
 use Rattle.record.specs.declared.Part.{Part}
@@ -13,8 +9,6 @@ use Rattle.record.specs.declared.Part.TheVariants as part
 use Rattle.record.specs.declared.Judged.{Judged}
 use Rattle.record.specs.declared.Judged.TheVariants as judged
 use Rattle.record.specs.declared.Limits.{Limits}
-use Rattle.record.specs.declared.Named.{Named}
-use Rattle.record.specs.declared.Named.TheVariants as named
 
 -- ---- the words that lines begin with
 
@@ -51,15 +45,15 @@ abbrev pub «arg=» : List ℕ
 -- ---- the first line
 
 -- one of seven ops
-unfoldable pub op_of : List ℕ → Named
+unfoldable pub op_of : List ℕ → Option Op
 op_of l =
-    cond (same_bytes l «op=add») (named.Is op.Add)
-    (cond (same_bytes l «op=drop») (named.Is op.Drop)
-    (cond (same_bytes l «op=start») (named.Is op.Start)
-    (cond (same_bytes l «op=stop») (named.Is op.Stop)
-    (cond (same_bytes l «op=reset») (named.Is op.Reset)
-    (cond (same_bytes l «op=speed») (named.Is op.Speed)
-    (cond (same_bytes l «op=frame») (named.Is op.Frame) named.No))))))
+    cond (same_bytes l «op=add») (Some op.Add)
+    (cond (same_bytes l «op=drop») (Some op.Drop)
+    (cond (same_bytes l «op=start») (Some op.Start)
+    (cond (same_bytes l «op=stop») (Some op.Stop)
+    (cond (same_bytes l «op=reset») (Some op.Reset)
+    (cond (same_bytes l «op=speed») (Some op.Speed)
+    (cond (same_bytes l «op=frame») (Some op.Frame) None))))))
 
 -- ---- the numbers behind it
 
@@ -86,21 +80,21 @@ is_first (part.Slot o) = false
 is_first (part.Generation o s) = false
 is_first (part.Arg o s g) = false
 
-abbrev pub by_op : Named → Judged
-by_op (named.Is o) = judged.Next (part.Slot o)
-by_op named.No = judged.Bad
+abbrev pub by_op : Option Op → Judged
+by_op (Some o) = judged.Next (part.Slot o)
+by_op None = judged.Bad
 
-abbrev pub by_slot : Op → Small → Judged
-by_slot o (small.Is s) = judged.Next (part.Generation o s)
-by_slot o small.No = judged.Bad
+abbrev pub by_slot : Op → Option ℕ → Judged
+by_slot o (Some s) = judged.Next (part.Generation o s)
+by_slot o None = judged.Bad
 
-abbrev pub by_generation : Op → ℕ → Small → Judged
-by_generation o s (small.Is g) = judged.Next (part.Arg o s g)
-by_generation o s small.No = judged.Bad
+abbrev pub by_generation : Op → ℕ → Option ℕ → Judged
+by_generation o s (Some g) = judged.Next (part.Arg o s g)
+by_generation o s None = judged.Bad
 
-abbrev pub by_arg : Op → ℕ → ℕ → Number → Judged
-by_arg o s g (number.Is a) = judged.Whole (record { op = o; slot = s; generation = g; arg = a })
-by_arg o s g number.No = judged.Bad
+abbrev pub by_arg : Op → ℕ → ℕ → Option ℕ → Judged
+by_arg o s g (Some a) = judged.Whole (record { op = o; slot = s; generation = g; arg = a })
+by_arg o s g None = judged.Bad
 
 -- the four lines in their order, each judged by what the record has said so far
 unfoldable pub judge_of : Part → List ℕ → Judged

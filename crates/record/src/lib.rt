@@ -6,8 +6,7 @@ pub mod field;
 ghost use Rattle.std.specs.Prelude.{◌≡◌};
 ghost use Rattle.record.specs.Records.{op_of, up_most, limits_of, judge_of};
 
-use crate::field::{Small, decimal_behind, hex_behind, is};
-use text::Number;
+use crate::field::{decimal_behind, hex_behind, is};
 
 // The largest numbers of a slot, of a generation and of an argument.
 const SLOT: u32 = 15;
@@ -52,12 +51,6 @@ pub enum Judged {
     Bad,
 }
 
-#[derive(Clone, Copy)]
-enum Named {
-    Is(Op),
-    No,
-}
-
 // The most that each number of a record may be.
 #[derive(Clone, Copy)]
 struct Limits {
@@ -66,31 +59,21 @@ struct Limits {
     arg: u64,
 }
 
-fn op_line(line: &[u8]) -> Named
+const OPS: [(&[u8], Op); 7] = [
+    (b"op=add", Op::Add),
+    (b"op=drop", Op::Drop),
+    (b"op=start", Op::Start),
+    (b"op=stop", Op::Stop),
+    (b"op=reset", Op::Reset),
+    (b"op=speed", Op::Speed),
+    (b"op=frame", Op::Frame),
+];
+
+fn op_line(line: &[u8]) -> Option<Op>
     ensures { result ≡ op_of line.now }
 {
-    if is(line, b"op=add") {
-        return Named::Is(Op::Add);
-    }
-    if is(line, b"op=drop") {
-        return Named::Is(Op::Drop);
-    }
-    if is(line, b"op=start") {
-        return Named::Is(Op::Start);
-    }
-    if is(line, b"op=stop") {
-        return Named::Is(Op::Stop);
-    }
-    if is(line, b"op=reset") {
-        return Named::Is(Op::Reset);
-    }
-    if is(line, b"op=speed") {
-        return Named::Is(Op::Speed);
-    }
-    if is(line, b"op=frame") {
-        return Named::Is(Op::Frame);
-    }
-    Named::No
+    let row = OPS.iter().find(|row| is(line, row.0))?;
+    Some(row.1)
 }
 
 fn up_most(slot: u32, generation: u32, arg: u64) -> Limits
@@ -107,40 +90,37 @@ fn limits_of(o: Op) -> Limits
     ensures { result ≡ limits_of o }
 {
     match o {
-        Op::Add => up_most(SLOT, GENERATION, ARG),
-        Op::Drop => up_most(SLOT, GENERATION, 0),
-        Op::Start => up_most(SLOT, GENERATION, 0),
-        Op::Stop => up_most(SLOT, GENERATION, 0),
-        Op::Reset => up_most(SLOT, GENERATION, 0),
-        Op::Speed => up_most(SLOT, GENERATION, ARG),
+        Op::Add | Op::Speed => up_most(SLOT, GENERATION, ARG),
+        Op::Drop | Op::Start | Op::Stop | Op::Reset => up_most(SLOT, GENERATION, 0),
         Op::Frame => up_most(0, 0, ARG),
     }
 }
 
+#[tactic(auto, unfolding(crate::specs::Records::judge_of))]
 pub fn judge(part: Part, line: &[u8]) -> Judged
     ensures { result ≡ judge_of part line.now }
 {
     match part {
         Part::Op => match op_line(line) {
-            Named::Is(o) => Judged::Next(Part::Slot(o)),
-            Named::No => Judged::Bad,
+            Some(o) => Judged::Next(Part::Slot(o)),
+            None => Judged::Bad,
         },
         Part::Slot(o) => match decimal_behind(line, b"slot=", limits_of(o).slot) {
-            Small::Is(s) => Judged::Next(Part::Generation(o, s)),
-            Small::No => Judged::Bad,
+            Some(s) => Judged::Next(Part::Generation(o, s)),
+            None => Judged::Bad,
         },
         Part::Generation(o, s) => match decimal_behind(line, b"gen=", limits_of(o).generation) {
-            Small::Is(g) => Judged::Next(Part::Arg(o, s, g)),
-            Small::No => Judged::Bad,
+            Some(g) => Judged::Next(Part::Arg(o, s, g)),
+            None => Judged::Bad,
         },
         Part::Arg(o, s, g) => match hex_behind(line, b"arg=", limits_of(o).arg) {
-            Number::Is(a) => Judged::Whole(Record {
+            Some(a) => Judged::Whole(Record {
                 op: o,
                 slot: s,
                 generation: g,
                 arg: a,
             }),
-            Number::No => Judged::Bad,
+            None => Judged::Bad,
         },
     }
 }

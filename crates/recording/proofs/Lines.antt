@@ -1,16 +1,19 @@
 -- What lines say, by the first of them, whose length was counted. Assumes nothing.
-use Prim.Native.Nat.{ℕ, suc, ◌+◌, ◌-◌, ◌<◌, ◌≤◌}
+use Prim.Native.Nat.{ℕ, zero, suc, ◌+◌, ◌-◌, ◌<◌, ◌≤◌, min}
 use native.Mathlib.Omega.{arith}
 use native.Mathlib.Numerals.{add-one}
 use mathlib.Core.Path.{◌≡◌, refl}
-use mathlib.Core.Bool.{Bool, true, false}
+use mathlib.Core.Bool.{Bool, true, false, not}
 use mathlib.Core.List.{List, [], ◌∷◌, ◌++◌}
-use borrow.Author.Tests.{lt-ltb, le-ltb, le-leb, lt-leb, eq-eqb, ne_eqb}
+use borrow.Author.Tests.{lt-ltb, le-ltb, le-leb, lt-leb, eqb-true, eq-eqb, ne_eqb}
 use lib.Dec.{eqb}
 use lib.ListN.{length, take, drop, get_or, length-append, drop_of_length-le}
 use lib.Seq.{length-take-le, take_all, take-suc, drop-cons, drop-drop}
+use Rattle.std.specs.List.{prefix_len}
+use Rattle.std.proofs.lemmas.List.{get_or-take, length-take}
+use Rattle.std.proofs.lemmas.List.Sums.{prefix_len-le-length, prefix_len_passes, prefix_len_stops}
 use Rattle.record.specs.Records.{is_first, judge_of}
-use Rattle.record.proofs.field.Lines.{onward}
+use Rattle.text.proofs.Bytes.{onward}
 use Rattle.record.specs.declared.Part.{Part}
 use Rattle.record.specs.declared.Part.TheVariants as part
 use Rattle.record.specs.declared.Judged.{Judged}
@@ -20,12 +23,48 @@ use Rattle.recording.specs.Lengths.{InLine, LineLength}
 -- ---- counting
 
 module _ (most : ℕ) (bs : List ℕ) where
-  pub none : InLine most bs 0
+  none : InLine most bs 0
   none = record { small = omega arith; inside = omega arith; begun = refl }
 
-  pub one_more : (n : ℕ) → InLine most bs n → n < most → n < length bs → (get_or bs n 0 ≡ 10 → ⊥) → InLine most bs (n + 1)
+  one_more : (n : ℕ) → InLine most bs n → n < most → n < length bs → (get_or bs n 0 ≡ 10 → ⊥) → InLine most bs (n + 1)
   unfolding lines_from
   one_more n h l m e = record { small = omega arith; inside = omega arith; begun = rw (add-one, take-suc bs n 0 m) (rw (drop-cons bs n 0 m, ne_eqb (get_or bs n 0) 10 e) at h.begun) }
+
+abbrev pub no_lf : ℕ → Bool
+no_lf b = not (eqb b 10)
+
+lf : (b : ℕ) → no_lf b ≡ false → b ≡ 10
+lf b h = eqb-true b 10 (by (eqb b 10) h)
+  where
+    by : (t : Bool) → not t ≡ false → t ≡ true
+    by true e = refl
+    by false e = cc
+
+other : (b : ℕ) → no_lf b ≡ true → b ≡ 10 → ⊥
+other b h e = by (eqb b 10) (eq-eqb b 10 e) h
+  where
+    by : (t : Bool) → t ≡ true → not t ≡ true → ⊥
+    by true f g = cc
+    by false f g = cc
+
+-- the bytes before the first LF, among so many
+module _ (most : ℕ) (bs : List ℕ) where
+  abbrev few : List ℕ
+  few = take most bs
+
+  so_far : (k : ℕ) → k ≤ prefix_len no_lf few → InLine most bs k
+  so_far zero h = none most bs
+  so_far (suc k) h =
+      let long : prefix_len no_lf few ≤ min most (length bs) = omega (arith, prefix_len-le-length no_lf few, length-take most bs) in
+      let inside : k < most = omega arith in
+      let here : no_lf (get_or bs k 0) ≡ true = rw (get_or-take most bs k 0 inside) at (prefix_len_passes no_lf few k 0 (omega arith)) in
+      rw (← add-one k) (one_more most bs k (so_far k (omega arith)) (omega arith) (omega arith) (other (get_or bs k 0) here))
+
+  pub counted : (n : ℕ) → n ≡ prefix_len no_lf few → LineLength most bs n
+  counted n e = record { in_line = so_far n (omega arith); ended = λ m l. lf (get_or bs n 0) (stops n e m l) }
+    where
+      stops : (n : ℕ) → n ≡ prefix_len no_lf few → n < most → n < length bs → no_lf (get_or bs n 0) ≡ false
+      stops n e m l = rw (← get_or-take most bs n 0 m, e) (prefix_len_stops no_lf few 0 (omega (arith, length-take most bs)))
 
 -- ---- what is left of bytes at a place, as the code takes it
 

@@ -3,18 +3,20 @@
 use Prim.Native.Nat.{ℕ, zero, suc, ◌+◌, ◌-◌, ◌/◌, ◌%◌, ◌^◌, ◌<◌, ◌≤◌}
 use native.Mathlib.Decide.{dec_lt}
 use native.Mathlib.Omega.{arith}
-use mathlib.Core.Path.{◌≡◌, refl, sym, ap, ◌∙◌}
+use mathlib.Core.Path.{◌≡◌, refl, ap, ◌∙◌}
 use mathlib.Core.Bool.{true}
 use mathlib.Core.List.{List, [], ◌∷◌, ◌++◌, append-nil, append_assoc}
 use borrow.Author.Tests.{lt-ltb, le-ltb, le-leb, ne_eqb}
 use lib.ListN.{length, length-append}
 use lib.Seq.{take-append_seam, drop-append_seam}
 use Rattle.io.specs.Digits.{hex_digit_ascii, last_digits}
-use Rattle.text.specs.declared.Number.TheVariants as number
+use Rattle.std.specs.Prelude.{Some}
 use Rattle.digits.specs.Digits.{places_from, number_text, hex_text}
 use Rattle.digits.proofs.Back.{decimal_back, hex_back}
 use Rattle.digits.proofs.Lengths.{number_length, hex_length}
-use Rattle.record.specs.Fields.{same_bytes, begins, as_small, decimal_behind, hex_behind}
+use Rattle.text.specs.Words.{same_bytes}
+use Rattle.text.proofs.Bytes.{same_self}
+use Rattle.record.specs.Fields.{begins, decimal_behind, hex_behind}
 use Rattle.record.specs.Records.{«slot=», «gen=», «arg=», op_of, limits_of, judge_of}
 use Rattle.record.specs.declared.Op.{Op}
 use Rattle.record.specs.declared.Op.TheVariants as op
@@ -22,7 +24,6 @@ use Rattle.record.specs.declared.Record.{Record}
 use Rattle.record.specs.declared.Part.{Part}
 use Rattle.record.specs.declared.Part.TheVariants as part
 use Rattle.record.specs.declared.Judged.TheVariants as judged
-use Rattle.record.proofs.field.Lines.{same_told}
 use Rattle.recording.specs.Recordings.{line, lines_from, next, trace, by_judged, tape_of, tape_at, records_of, is_whole}
 use Rattle.recording.specs.Writings.{op_text, ended, text_of, written_of, Writable, All}
 
@@ -82,13 +83,13 @@ op_back op.Frame = refl
 
 begins_back : (name l : List ℕ) → begins name (name ++ l) ≡ true
 unfolding begins
-begins_back name l = sym (same_told true _ name ((λ e. take-append_seam name l), (λ e. refl)))
+begins_back name l = rw (take-append_seam name l) (same_self name)
 
-decimal_behind_back : (name : List ℕ) (most n : ℕ) → n ≤ most → n < 2 ^ 64 → decimal_behind most name (name ++ number_text n) ≡ as_small (number.Is n)
+decimal_behind_back : (name : List ℕ) (most n : ℕ) → n ≤ most → n < 2 ^ 64 → decimal_behind most name (name ++ number_text n) ≡ Some n
 unfolding decimal_behind
 decimal_behind_back name most n l h = rw (begins_back name (number_text n), drop-append_seam name (number_text n), decimal_back n h, le-leb n most l)
 
-hex_behind_back : (name : List ℕ) (most n : ℕ) → n ≤ most → n < 2 ^ 64 → hex_behind most name (name ++ hex_text n) ≡ number.Is n
+hex_behind_back : (name : List ℕ) (most n : ℕ) → n ≤ most → n < 2 ^ 64 → hex_behind most name (name ++ hex_text n) ≡ Some n
 unfolding hex_behind
 hex_behind_back name most n l h = rw (begins_back name (hex_text n), drop-append_seam name (hex_text n), hex_back n h, le-leb n most l)
 

@@ -24,20 +24,11 @@ pub enum Read {
 fn line_length(s: &[u8], most: usize) -> usize
     ensures { LineLength most s.now result }
 {
-    let mut n: usize = 0;
-    while n < most {
-        if n >= s.len() {
-            return n;
-        }
-        if s[n] == b'\n' {
-            return n;
-        }
-        n += 1;
-    }
-    n
+    s.iter().take(most).take_while(|&&b| b != b'\n').count()
 }
 
-// At a place behind the last byte the recording has ended.
+// At a place behind the last byte the recording has ended. The plain function under `Reader`, over a slice and a place,
+// as document 01 names the form.
 pub fn record_at(s: &[u8], at: usize) -> Read
     ensures { result ≡ record_at s.now at }
 {
@@ -47,6 +38,7 @@ pub fn record_at(s: &[u8], at: usize) -> Read
     let mut part = Part::Op;
     let mut room: usize = ROOM;
     let mut i = at;
+    // No `for`: where the next line begins, only the line before says.
     loop {
         let left = &s[i..];
         let n = line_length(left, room);

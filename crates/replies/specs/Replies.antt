@@ -1,10 +1,9 @@
 -- The station's answers, as docs/BENCH.md has them: the pieces of each answer's text. Assumes nothing.
-use Rattle.std.specs.Prelude.{ℕ, ◌+◌, cond, List, [], ◌∷◌, ◌++◌, eqb}
+use Rattle.std.specs.Prelude.{ℕ, ◌+◌, cond, List, [], ◌∷◌, ◌++◌, eqb, Option, Some, None, Result, Ok, Err}
 use Rattle.ids.specs.declared.Key.{Key}
-use Rattle.clock.specs.declared.Reported.{Reported}
-use Rattle.report.specs.declared.Filled.{Filled}
-use Rattle.report.specs.declared.Filled.TheVariants as report
-use Rattle.answers.specs.Answers.{blank, id_text, speed_text, time_text, refused_text}
+use Rattle.judge.specs.Answer.{told, number_of_refusal}
+use Rattle.judge.specs.declared.Refusal.{Refusal}
+use Rattle.answers.specs.Answers.{blank, id_text, speed_text, time_text, refused_text, reply_text}
 use Rattle.digits.specs.Digits.{number_text, flag_text, float_text}
 use Rattle.commands.specs.declared.CallAnswer.{CallAnswer}
 use Rattle.commands.specs.declared.CallAnswer.TheVariants as answer
@@ -13,20 +12,27 @@ use Rattle.commands.specs.declared.CallAnswer.TheVariants as answer
 abbrev pub ok_text : List (List ℕ)
 ok_text = (0x6f ∷ 0x6b ∷ []) ∷ []
 
+-- that, or `refused N`
+abbrev pub done_text : Result (Unit {0}) Refusal → List (List ℕ)
+done_text r = reply_text (λ u. ok_text) (told r)
+
 -- "`id ID`"
 abbrev pub id_reply : ℕ → ℕ → List (List ℕ)
 id_reply slot generation = (0x69 ∷ 0x64 ∷ blank) ∷ id_text slot generation
 
 -- "`ok`", "`id ID`", "`N F`", "`0` or `1`", "`SPEED`", "`F`"
-abbrev pub answer_text : CallAnswer → List (List ℕ)
-answer_text answer.Done = ok_text
-answer_text (answer.Clock i) = id_reply i.slot i.generation
-answer_text (answer.Modulator i) = id_reply i.slot i.generation
-answer_text (answer.Time t) = time_text t
-answer_text (answer.Flag b) = flag_text b ∷ []
-answer_text (answer.Speed s) = speed_text s
-answer_text (answer.Value x) = float_text x ∷ []
-answer_text (answer.Refused n) = refused_text n
+abbrev pub given_text : CallAnswer → List (List ℕ)
+given_text answer.Done = ok_text
+given_text (answer.Clock i) = id_reply i.slot i.generation
+given_text (answer.Modulator i) = id_reply i.slot i.generation
+given_text (answer.Time t) = time_text t
+given_text (answer.Flag b) = flag_text b ∷ []
+given_text (answer.Speed s) = speed_text s
+given_text (answer.Value x) = float_text x ∷ []
+
+-- that, or `refused N`
+abbrev pub answer_text : Result CallAnswer Refusal → List (List ℕ)
+answer_text r = reply_text given_text (told r)
 
 -- "=" and "-"
 abbrev pub equals_sign : List ℕ
@@ -35,18 +41,23 @@ equals_sign = 0x3d ∷ []
 abbrev pub dash : List ℕ
 dash = 0x2d ∷ []
 
+-- "(the tick reported)" or "`-` (none)"
+abbrev pub reported_tick : Option ℕ → List ℕ
+reported_tick (Some n) = number_text n
+reported_tick None = dash
+
 -- "` SLOT=N` (the tick reported) or ` SLOT=-` (none)"
-abbrev pub tick_text : ℕ → Reported → List (List ℕ)
-tick_text slot r = blank ∷ number_text slot ∷ equals_sign ∷ cond r.told (number_text r.tick) dash ∷ []
+abbrev pub tick_text : ℕ → Option ℕ → List (List ℕ)
+tick_text slot r = blank ∷ number_text slot ∷ equals_sign ∷ reported_tick r ∷ []
 
 -- "for each living clock in slot order", from slot i on
-unfoldable pub ticks_text : ℕ → List Key → List Reported → List (List ℕ)
+unfoldable pub ticks_text : ℕ → List Key → List (Option ℕ) → List (List ℕ)
 ticks_text i [] rs = []
 ticks_text i (k ∷ ks) [] = []
 ticks_text i (k ∷ ks) (r ∷ rs) = cond k.used (tick_text i r) [] ++ ticks_text (i + 1) ks rs
 
 -- "`frame`, then" the reports
-abbrev pub frame_text : List Key → List Reported → List (List ℕ)
+abbrev pub frame_text : List Key → List (Option ℕ) → List (List ℕ)
 frame_text ks rs = (0x66 ∷ 0x72 ∷ 0x61 ∷ 0x6d ∷ 0x65 ∷ []) ∷ ticks_text 0 ks rs
 
 -- "every LF shown as `;`"
@@ -54,6 +65,6 @@ abbrev pub shown_of : ℕ → ℕ
 shown_of b = cond (eqb b 0x0a) 0x3b b
 
 -- "the whole buffer", or "`refused N`, a blank, and the buffer as it is then"
-abbrev pub reported_text : Filled → List ℕ → List (List ℕ)
-reported_text (report.Written n) buffer = buffer ∷ []
-reported_text (report.Refused n) buffer = refused_text n ++ (blank ∷ buffer ∷ [])
+abbrev pub reported_text : Result ℕ Refusal → List ℕ → List (List ℕ)
+reported_text (Ok n) buffer = buffer ∷ []
+reported_text (Err r) buffer = refused_text (number_of_refusal r) ++ (blank ∷ buffer ∷ [])

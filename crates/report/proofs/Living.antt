@@ -11,16 +11,19 @@ use lib.ListN.{length, get_or, drop, length-append}
 use lib.Seq.{drop-cons, drop-length}
 use borrow.Author.Tests.{lt-ltb, le-ltb}
 use Rattle.digits.specs.Puts.{Put, place, put_all, whole}
+use Rattle.digits.specs.Outs.{placed}
+use Rattle.digits.specs.declared.Out.{Out}
+use Rattle.digits.proofs.Outs.{by_end}
 use Rattle.digits.proofs.Pieces.{after}
+use Rattle.std.specs.Prelude.{Ok, Err}
 use Rattle.judge.specs.Judge.{number_of}
-use Rattle.judge.specs.Numbers.{«BUFFER»}
+use Rattle.judge.specs.declared.Refusal.TheVariants.{Buffer}
 use Rattle.ids.specs.Keys.{taken_at, left_at}
 use Rattle.ids.specs.declared.Key.{Key}
 use Rattle.clock.specs.declared.Clock.{Clock}
 use Rattle.clock_table.specs.declared.Clocks.{Clocks}
 use Rattle.report.specs.Reports.{clock_lines, report_text, reported, at_start}
 use Rattle.report.specs.AllReports.{id_in, living_from, slot_lines, all_reports_of}
-use Rattle.report.specs.declared.Filled.TheVariants.{Written, Refused}
 use Rattle.report.proofs.Longest.{id_of}
 use Rattle.report.proofs.Fits.{at_start_lem}
 
@@ -96,16 +99,17 @@ nothing t i h = rw (← h, drop-length t.keys)
 
 module _ (t : Clocks) (out : List ℕ) where
   -- BUFFER
-  pub too_small_for_all : length out < 1536 → reported (Refused «BUFFER») out ≡ all_reports_of t out
+  pub too_small_for_all : length out < 1536 → reported (Err Buffer) out ≡ all_reports_of t out
   unfolding all_reports_of number_of
   too_small_for_all h = rw (lt-ltb (length out) 1536 h)
 
   pub all_written :
-      {o : List ℕ} {n : ℕ} (i : ℕ) → 1536 ≤ length out → length t.keys ≡ i → i ≤ 16 → Left t (place out 0) (place o n) i
-      → reported (Written n) o ≡ all_reports_of t out
+      {o : List ℕ} {n : ℕ} (i : ℕ) (q : Out) → 1536 ≤ length out → length t.keys ≡ i → i ≤ 16
+      → o ≡ q.bytes.now → n ≡ q.at → Left t (place out 0) (placed q) i
+      → reported (Ok n) o ≡ all_reports_of t out
   unfolding all_reports_of number_of
-  all_written {o} {n} i h k l left =
+  all_written i q h k l e f left =
       at_start_lem (rest t 0) out (omega (arith, left.short, ap (λ (s : List (List ℕ)). length (whole s)) (nothing t i k)))
-      (sym (ap (put_all (place o n)) (nothing t i k)) ∙ left.puts)
+      (by_end q e f ∙ sym (ap (put_all (placed q)) (nothing t i k)) ∙ left.puts)
       ∙ ap (λ (s : List ℕ). at_start s out) (text 0 t.keys t.clocks)
       ∙ rw (le-ltb (length out) 1536 h)

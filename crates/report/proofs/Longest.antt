@@ -12,7 +12,7 @@ use Rattle.digits.specs.Digits.{places_from, number_text, hex_text}
 use Rattle.digits.proofs.Lengths.{number_exact, number_length, hex_length, flag_length}
 use Rattle.values.specs.declared.clock_speed.ClockSpeed.TheVariants.{TicksPerSecond}
 use Rattle.times.specs.declared.time.ClockId.{ClockId}
-use Rattle.values.specs.declared.value.SpeedValue.TheVariants.{Fixed}
+use Rattle.values.specs.declared.value.Value.TheVariants.{Fixed}
 use Rattle.clock.specs.OneClock.{new_clock, position_of, fresh_of}
 use Rattle.clock.specs.declared.Clock.{Clock}
 use Rattle.clock.specs.declared.ClockState.TheVariants.{Started}

@@ -1,19 +1,18 @@
 -- A clock's report: six lines at the start of a buffer that the caller lends. 01, "Worked rows"; RULES, report. Assumes
 -- nothing.
-use Rattle.std.specs.Prelude.{ℕ, Bool, false, not, List, [], ◌∷◌, ◌++◌, ltb, length, drop}
+use Rattle.std.specs.Prelude.{ℕ, Bool, false, not, List, [], ◌∷◌, ◌++◌, ltb, length, drop, Result}
 use Rattle.digits.specs.Digits.{number_text, flag_text, float_text}
 use Rattle.digits.specs.Puts.{whole, line_end}
 use Rattle.ticks.specs.declared.Position.{Position}
-use Rattle.judge.specs.Answer.{Answer, accepted, refused}
+use Rattle.judge.specs.Answer.{Answer, accepted, refused, told}
 use Rattle.judge.specs.Judge.{of_report, number_of, decided}
+use Rattle.judge.specs.declared.Refusal.{Refusal}
 use Rattle.times.specs.declared.time.ClockId.{ClockId}
 use Rattle.clock.specs.OneClock.{position_of, fresh_of}
 use Rattle.ids.specs.Tables.{where_is, read_found}
 use Rattle.clock_table.specs.ClockTables.{clock_table}
 use Rattle.clock.specs.declared.Clock.{Clock}
 use Rattle.clock_table.specs.declared.Clocks.{Clocks}
-use Rattle.report.specs.declared.Filled.{Filled}
-use Rattle.report.specs.declared.Filled.TheVariants.{Written, Refused}
 
 -- ---- the text
 
@@ -62,12 +61,8 @@ pub record Outcome : Type 0 where
   pub answer : Answer ℕ
   pub out : List ℕ
 
-abbrev pub told_report : Filled → Answer ℕ
-told_report (Written n) = accepted n
-told_report (Refused n) = refused n
-
-abbrev pub reported : Filled → List ℕ → Outcome
-reported r out = record { answer = told_report r; out = out }
+abbrev pub reported : Result ℕ Refusal → List ℕ → Outcome
+reported r out = record { answer = told r; out = out }
 
 -- a refused report leaves the buffer: RULES, refusal
 abbrev pub unchanged : ℕ → List ℕ → Outcome

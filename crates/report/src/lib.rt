@@ -5,15 +5,16 @@
 ghost use Rattle.std.specs.Prelude.{◌<◌, ◌≤◌, ◌≡◌, not, length};
 ghost use Rattle.judge.specs.Answer.{accepted};
 ghost use Rattle.clock.specs.OneClock.{fresh_of};
-ghost use Rattle.digits.specs.Digits.{number_text, flag_text, float_text};
-ghost use Rattle.digits.specs.Puts.{place, put_all, whole};
-ghost use Rattle.report.specs.Reports.{field, report_lines, clock_lines, report_text, into_buffer, report_of, reported};
+ghost use Rattle.digits.specs.Outs.{put_in};
+ghost use Rattle.digits.specs.Puts.{whole};
+ghost use Rattle.report.specs.Reports.{report_lines, clock_lines, report_text, into_buffer, report_of, reported};
 ghost use Rattle.report.specs.AllReports.{slot_lines, all_reports_of};
 
-use clock::{Clock, ClockState, position};
-use clock_table::{Clocks, Looked, look};
-use ids::Key;
-use judge::BUFFER;
+use clock::{Clock, ClockState};
+use clock_table::Clocks;
+use digits::Out;
+use ids::{Key, find};
+use judge::Refusal;
 use ticks::Position;
 use times::time::ClockId;
 
@@ -23,116 +24,101 @@ const LONGEST: usize = 96;
 // The same for the reports of all 16 clocks.
 const ALL: usize = 16 * LONGEST;
 
-// How many bytes were written, or the number of a refusal.
-#[derive(Clone, Copy)]
-pub enum Filled {
-    Written(usize),
-    Refused(u32),
-}
-
-fn number_line(out: &mut [u8], at: usize, name: &[u8], n: u64) -> usize
-    ensures { place out.new result ≡ put_all (place out.old at) (field name.now (number_text n)) }
-{
-    let behind = digits::counted(out, at, name, n);
-    digits::end(out, behind)
-}
-
-fn flag_line(out: &mut [u8], at: usize, name: &[u8], b: bool) -> usize
-    ensures { place out.new result ≡ put_all (place out.old at) (field name.now (flag_text b)) }
-{
-    let behind = digits::flagged(out, at, name, b);
-    digits::end(out, behind)
-}
-
-fn float_line(out: &mut [u8], at: usize, name: &[u8], x: f64) -> usize
-    ensures { place out.new result ≡ put_all (place out.old at) (field name.now (float_text x)) }
-{
-    let behind = digits::named(out, at, name, x);
-    digits::end(out, behind)
-}
-
 fn started(state: ClockState) -> bool
     ensures { result ≡ not (fresh_of state) }
 {
-    match state {
-        ClockState::NotStarted => false,
-        ClockState::Started(_) => true,
-    }
+    matches!(state, ClockState::Started(_))
 }
 
-// The six lines, from a place on.
-fn lines(out: &mut [u8], at: usize, id: ClockId, ticking: bool, started: bool, p: Position) -> usize
-    ensures { place out.new result ≡ put_all (place out.old at) (report_lines id ticking started p) }
+// The six lines.
+fn lines(out: &mut Out, id: ClockId, ticking: bool, started: bool, p: Position)
+    ensures { out.new ≡ put_in out.old (report_lines id ticking started p) }
 {
-    let a = number_line(out, at, b"slot=", id.slot as u64);
-    let b = number_line(out, a, b"gen=", id.generation as u64);
-    let c = flag_line(out, b, b"ticking=", ticking);
-    let d = flag_line(out, c, b"started=", started);
-    let e = number_line(out, d, b"ticks=", p.ticks);
-    float_line(out, e, b"fraction=", p.fraction)
+    out.counted(b"slot=", id.slot as u64);
+    out.end();
+    out.counted(b"gen=", id.generation as u64);
+    out.end();
+    out.flagged(b"ticking=", ticking);
+    out.end();
+    out.flagged(b"started=", started);
+    out.end();
+    out.counted(b"ticks=", p.ticks);
+    out.end();
+    out.named(b"fraction=", p.fraction);
+    out.end();
 }
 
-// A clock's lines, from a place on. Their length is bounded here, where the position is read: its ticks have 64 bits.
-fn clock_lines(out: &mut [u8], at: usize, id: ClockId, c: Clock) -> usize
+// A clock's lines. Their length is bounded here, where the position is read: its ticks have 64 bits.
+fn clock_lines(out: &mut Out, id: ClockId, c: &Clock)
     requires { id.slot < 16 }
-    ensures result_after { place out.new result ≡ put_all (place out.old at) (clock_lines id c) }
-    ensures c_len_bound { length (report_text id c) ≤ 96 }
+    ensures puts { out.new ≡ put_in out.old (clock_lines id c.now) }
+    ensures c_len_bound { length (report_text id c.now) ≤ 96 }
 {
-    let state = c.state;
-    lines(out, at, id, c.ticking, started(state), position(state))
+    lines(out, id, c.ticking, started(c.state), c.state.position());
 }
 
 // A living clock's report, unless the buffer may be too short for it.
-fn fill(out: &mut [u8], id: ClockId, c: Clock) -> Filled
+fn fill(out: &mut [u8], id: ClockId, c: &Clock) -> Result<usize, Refusal>
     requires { id.slot < 16 }
-    ensures { reported result out.new ≡ into_buffer out.old (accepted (report_text id c)) }
+    ensures { reported result out.new ≡ into_buffer out.old (accepted (report_text id c.now)) }
 {
     if out.len() < LONGEST {
-        return Filled::Refused(BUFFER);
+        return Err(Refusal::Buffer);
     }
-    let n = clock_lines(out, 0, id, c);
-    Filled::Written(n)
+    let mut text = Out::new(out);
+    clock_lines(&mut text, id, c);
+    Ok(text.place())
 }
 
-pub fn report(t: Clocks, id: ClockId, out: &mut [u8]) -> Filled
-    ensures { reported result out.new ≡ report_of t id out.old }
+// The report of the clock that an id names, of a table's keys and clocks: a proof knows how long arrays are that are
+// lent by themselves.
+#[tactic(auto, using(ids::proofs::Places::found_inside))]
+fn named(
+    keys: &[Key; 16],
+    clocks: &[Clock; 16],
+    id: ClockId,
+    out: &mut [u8],
+) -> Result<usize, Refusal>
+    ensures { reported result out.new ≡ report_of (record { keys = keys.now; clocks = clocks.now }) id out.old }
 {
-    match look(t, id) {
-        Looked::At(_, c) => fill(out, id, c),
-        Looked::Refused(n) => Filled::Refused(n),
-    }
+    let i = find(keys, id.slot, id.generation)?;
+    fill(out, id, &clocks[i])
 }
 
-// The lines of one slot, from a place on: none where it is not used, since what it holds then is no clock.
-fn slot_lines(out: &mut [u8], at: usize, slot: usize, k: Key, c: Clock) -> usize
+// How many bytes were written.
+pub fn report(t: &Clocks, id: ClockId, out: &mut [u8]) -> Result<usize, Refusal>
+    ensures { reported result out.new ≡ report_of t.now id out.old }
+{
+    named(&t.keys, &t.clocks, id, out)
+}
+
+// The lines of one slot: none where it is not used, since what it holds then is no clock.
+fn slot_lines(out: &mut Out, slot: usize, k: Key, c: &Clock)
     requires { slot < 16 }
-    ensures result_after { place out.new result ≡ put_all (place out.old at) (slot_lines slot k c) }
-    ensures c_len_bound { length (whole (slot_lines slot k c)) ≤ 96 }
+    ensures puts { out.new ≡ put_in out.old (slot_lines slot k c.now) }
+    ensures c_len_bound { length (whole (slot_lines slot k c.now)) ≤ 96 }
 {
     if !k.used {
-        return at;
+        return;
     }
     let id = ClockId {
         slot: slot as u32,
         generation: k.generation,
     };
-    clock_lines(out, at, id, c)
+    clock_lines(out, id, c);
 }
 
-// The reports of the clocks that live, in the order of their slots, from the buffer's start.
-pub fn reports(t: Clocks, out: &mut [u8]) -> Filled
-    ensures { reported result out.new ≡ all_reports_of t out.old }
+// The reports of the clocks that live, in the order of their slots, from the buffer's start; how many bytes they have.
+pub fn reports(t: &Clocks, out: &mut [u8]) -> Result<usize, Refusal>
+    ensures { reported result out.new ≡ all_reports_of t.now out.old }
 {
     if out.len() < ALL {
-        return Filled::Refused(BUFFER);
+        return Err(Refusal::Buffer);
     }
-    let mut at: usize = 0;
-    let mut i: usize = 0;
-    while i < 16 {
-        let k = t.keys[i];
-        let c = t.clocks[i];
-        at = slot_lines(out, at, i, k, c);
-        i += 1;
+    let mut text = Out::new(out);
+    // By the slot's number into the clocks: `zip` of the two arrays was tried, and its goals stayed open.
+    for (slot, k) in t.keys.iter().enumerate() {
+        slot_lines(&mut text, slot, *k, &t.clocks[slot]);
     }
-    Filled::Written(at)
+    Ok(text.place())
 }

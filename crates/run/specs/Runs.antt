@@ -1,8 +1,7 @@
 -- Document 01, "Frame (added)" and "Refusal numbers": a call on the whole station, what it answers and what it leaves:
 -- RULES, station-call. Assumes nothing.
-use Rattle.std.specs.Prelude.{List, [], ◌∷◌}
+use Rattle.std.specs.Prelude.{ℕ, Option, List, [], ◌∷◌}
 use Rattle.judge.specs.Answer.{Answer}
-use Rattle.clock.specs.declared.Reported.{Reported}
 use Rattle.commands.specs.Answers.{Given, by_number}
 use Rattle.commands.specs.ClockCommands.{run_clock_of}
 use Rattle.commands.specs.ModulatorCommands.{run_modulator_of}
@@ -24,7 +23,7 @@ told st (call.Modulator c) = (run_modulator_of st.modulators c).answer
 told st (call.Frame dt) = by_number (frame_of st dt).refused
 
 -- and what each slot's clock reports, none at a command: RULES, frame-reports
-abbrev pub reports_of : Station → Call → List Reported
+abbrev pub reports_of : Station → Call → List (Option ℕ)
 reports_of st (call.Clock c) = no_reports
 reports_of st (call.Modulator c) = no_reports
 reports_of st (call.Frame dt) = (frame_of st dt).reports

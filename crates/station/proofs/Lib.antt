@@ -1,4 +1,4 @@
--- Laws that the crates above cite: `Filled` on what the loops that fill an array share, `Outcomes` on the statements
--- themselves.
+-- Laws that the functions' proofs and the crates above cite: `Filled` on what an array's `map` gives, `Outcomes` on the
+-- statements themselves.
 pub mod Filled
 pub mod Outcomes

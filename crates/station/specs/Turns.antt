@@ -3,19 +3,16 @@ use Rattle.std.specs.Prelude.{Float}
 use Rattle.judge.specs.Answer.{Answer}
 use Rattle.times.specs.declared.start_time.When.{When}
 use Rattle.times.specs.declared.start_time.When.TheVariants.{Later}
-use Rattle.parameter.specs.declared.float.FloatParameter.{FloatParameter}
-use Rattle.info.specs.ParametersIn.{course_due_of, float_due_of, float_source_of, speed_due_of, speed_source_of}
+use Rattle.info.specs.ParametersIn.{course_due_of, parameter_due_of, source_of, sight_of}
 use Rattle.info.specs.declared.info.Info.{Info}
-use Rattle.clock.specs.OneClock.{update_clock_of}
+use Rattle.clock.specs.OneClock.{Ticked, update_clock_of}
 use Rattle.clock.specs.declared.Clock.{Clock}
-use Rattle.clock.specs.declared.Ticked.{Ticked}
 use Rattle.modulator.specs.Tweeners.{update_tweener_of}
 use Rattle.modulator.specs.Lfos.{update_lfo_of}
 use Rattle.modulator.specs.declared.tweener.Tweener.{Tweener}
 use Rattle.modulator.specs.declared.tweener.TweenerState.{TweenerState}
 use Rattle.modulator.specs.declared.tweener.TweenerState.TheVariants.{Idle, Tweening}
 use Rattle.modulator.specs.declared.lfo.Lfo.{Lfo}
-use Rattle.modulator.specs.declared.lfo.Sight.{Sight}
 use Rattle.modulator_table.specs.ModulatorTables.{slot_of}
 use Rattle.modulator_table.specs.declared.Modulator.{Modulator}
 use Rattle.modulator_table.specs.declared.Slot.{Slot}
@@ -27,10 +24,6 @@ tweener_due_in info (Tweening m) = course_due_of info m.course
 
 abbrev pub tweener_due : Info → Tweener → When
 tweener_due info t = tweener_due_in info t.state
-
--- what one of an LFO's parameters sees
-abbrev pub sight_of : Info → FloatParameter → Sight
-sight_of info p = record { when = float_due_of info p; input = float_source_of info p }
 
 abbrev pub turn_lfo : Info → Lfo → Float → Lfo
 turn_lfo info l dt =
@@ -45,4 +38,4 @@ abbrev pub turn_slot : Info → Slot → Float → Slot
 turn_slot info s dt = slot_of (turn_modulator info s.modulator dt)
 
 unfoldable pub turn_clock : Info → Clock → Float → Answer Ticked
-turn_clock info c dt = update_clock_of c dt (speed_due_of info c.speed) (speed_source_of info c.speed)
+turn_clock info c dt = update_clock_of c dt (parameter_due_of info c.speed) (source_of info c.speed)

@@ -3,133 +3,65 @@
 ghost use Rattle.std.specs.Prelude.{◌≡◌, map};
 ghost use Rattle.clock.specs.OneClock.{info_of};
 ghost use Rattle.modulator_table.specs.ModulatorTables.{slot_value};
-ghost use Rattle.station.specs.Frames.{undone_of, modulators_turned, clocks_turned, frame_of};
+ghost use Rattle.station.specs.Frames.{seeing, slots_turned, tried, all_turns, framed_told, frame_of};
 
+use crate::Station;
 use crate::turns::{turn_clock, turn_slot};
-use crate::{Station, info_of};
-use clock::{Moved, Reported, clock_info, no_report};
-use clock_table::Clocks;
+use clock::Clock;
+use ids::Key;
 use info::info::Info;
-use judge::{dt_faults, first_fault};
-use modulator_table::{Modulators, slot_value};
+use judge::{Refusal, dt_faults};
+use modulator_table::Slot;
 
-// The station after a frame, 0 or the number of the refusal, and what the clock of each slot reported.
-#[derive(Clone, Copy)]
-pub struct Framed {
-    pub refused: u32,
-    pub station: Station,
-    pub reports: [Reported; 16],
-}
-
-// The modulators after their turns, and what is seen then.
-#[derive(Clone, Copy)]
-struct ModulatorsTurned {
-    table: Modulators,
-    info: Info,
-}
-
-// The clocks after their turns; as they were, where one refused.
-#[derive(Clone, Copy)]
-struct ClocksTurned {
-    refused: u32,
-    table: Clocks,
-    reports: [Reported; 16],
-}
-
-// Each modulator's turn. What is seen has its new value before the next turn.
-fn turn_modulators(t: Modulators, info: Info, dt: f64) -> ModulatorsTurned
-    requires { info.values ≡ map slot_value t.slots }
-    ensures { result ≡ modulators_turned info dt t }
+// Each modulator's turn. What is seen has its new value before the next turn; each turn reads it whole, so the loop
+// goes by the slot and not by an iterator over the values, and so does the clocks'.
+fn turn_modulators(keys: &[Key; 16], slots: &mut [Slot; 16], info: &mut Info, dt: f64)
+    requires { info.old.values ≡ map slot_value slots.old }
+    ensures slots_turned { slots.new ≡ slots_turned info.old dt keys.now slots.old }
+    ensures info_seeing { info.new ≡ seeing info.old slots.new }
 {
-    let mut table = t;
-    let mut seen = info;
-    let mut i: usize = 0;
-    while i < 16 {
-        let k = table.keys[i];
-        if k.used {
-            let s = table.slots[i];
-            let new = turn_slot(seen, s, dt);
-            seen.values[i] = slot_value(new);
-            table.slots[i] = new;
+    for i in 0..16 {
+        if keys[i].used {
+            turn_slot(info, &mut slots[i], dt);
+            info.values[i] = slots[i].value();
         }
-        i += 1;
     }
-    ModulatorsTurned { table, info: seen }
 }
 
-// Each clock's turn, until one refuses.
-fn turn_clocks(t: Clocks, info: Info, dt: f64) -> ClocksTurned
-    requires { info.clocks ≡ map info_of t.clocks }
-    ensures { result ≡ clocks_turned info dt t }
+// Each clock's turn, until one refuses: then the clocks before it have had theirs. Answers what each slot's clock
+// reported.
+fn turn_clocks(
+    keys: &[Key; 16],
+    clocks: &mut [Clock; 16],
+    info: &mut Info,
+    dt: f64,
+) -> Result<[Option<u64>; 16], Refusal>
+    requires { info.old.clocks ≡ map info_of clocks.old }
+    ensures { tried result clocks.new ≡ all_turns info.old dt keys.now clocks.old }
 {
-    let none = no_report();
-    let mut table = t;
-    let mut seen = info;
-    let mut reports = [none; 16];
-    let mut i: usize = 0;
-    while i < 16 {
-        let k = table.keys[i];
-        if k.used {
-            let c = table.clocks[i];
-            match turn_clock(seen, c, dt) {
-                Moved::Is(new) => {
-                    let clock = new.clock;
-                    let report = new.report;
-                    seen.clocks[i] = clock_info(clock);
-                    table.clocks[i] = clock;
-                    reports[i] = report;
-                }
-                Moved::Refused(n) => {
-                    return ClocksTurned {
-                        refused: n,
-                        table: t,
-                        reports: [none; 16],
-                    };
-                }
-            }
+    let mut reports = [None; 16];
+    for i in 0..16 {
+        if keys[i].used {
+            reports[i] = turn_clock(info, &mut clocks[i], dt)?;
+            info.clocks[i] = clocks[i].info();
         }
-        i += 1;
     }
-    ClocksTurned {
-        refused: 0,
-        table,
-        reports,
-    }
+    Ok(reports)
 }
 
-// A frame that is refused leaves the station as it was.
-fn undone(st: Station, n: u32) -> Framed
-    ensures { result ≡ undone_of st n }
-{
-    let none = no_report();
-    Framed {
-        refused: n,
-        station: st,
-        reports: [none; 16],
-    }
-}
-
-pub fn frame(st: Station, dt: f64) -> Framed
-    ensures { result ≡ frame_of st dt }
-{
-    let n = first_fault(dt_faults(dt));
-    if n != 0 {
-        return undone(st, n);
-    }
-    let old_modulators = st.modulators;
-    let old_clocks = st.clocks;
-    let m = turn_modulators(old_modulators, info_of(st), dt);
-    let seen = m.info;
-    let c = turn_clocks(old_clocks, seen, dt);
-    if c.refused != 0 {
-        return undone(st, c.refused);
-    }
-    let clocks = c.table;
-    let modulators = m.table;
-    let reports = c.reports;
-    Framed {
-        refused: 0,
-        station: Station { clocks, modulators },
-        reports,
+impl Station {
+    // What the clock of each slot reported. The turns are made on a copy, so that a refused frame leaves the station.
+    pub fn frame(&mut self, dt: f64) -> Result<[Option<u64>; 16], Refusal>
+        ensures { framed_told result self.new ≡ frame_of self.old dt }
+    {
+        dt_faults(dt).accept()?;
+        let mut next = *self;
+        let mut info = self.info();
+        let modulators = &mut next.modulators;
+        turn_modulators(&modulators.keys, &mut modulators.slots, &mut info, dt);
+        let clocks = &mut next.clocks;
+        let reports = turn_clocks(&clocks.keys, &mut clocks.clocks, &mut info, dt)?;
+        *self = next;
+        Ok(reports)
     }
 }

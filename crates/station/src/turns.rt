@@ -1,78 +1,57 @@
 // One modulator's turn of a frame, and one clock's, with what it sees.
-ghost use Rattle.std.specs.Prelude.{◌≡◌};
-ghost use Rattle.clock.specs.OneClock.{told_moved};
-ghost use Rattle.station.specs.Turns.{tweener_due, sight_of, turn_lfo, turn_modulator, turn_slot, turn_clock};
+ghost use Rattle.std.specs.Prelude.{◌≡◌, OnErr};
+ghost use Rattle.clock.specs.OneClock.{moved_told};
+ghost use Rattle.station.specs.Turns.{tweener_due, turn_lfo, turn_slot, turn_clock};
 
-use clock::{Clock, Moved, update_clock};
+use clock::Clock;
 use info::info::Info;
-use info::parameters::{course_due, float_due, float_source, speed_due, speed_source};
-use modulator::lfo::{Lfo, LfoSight, Sight, update_lfo};
-use modulator::tweener::{Tweener, TweenerState, update_tweener};
+use judge::Refusal;
+use modulator::lfo::{Lfo, LfoSight};
+use modulator::tweener::{Tweener, TweenerState};
 use modulator_table::{Modulator, Slot};
-use parameter::float::FloatParameter;
 use times::start_time::When;
 
 // When a tweener's start is due. A tweener at rest does not ask.
-fn tweener_due(info: Info, t: Tweener) -> When
-    ensures { result ≡ tweener_due info t }
+fn tweener_due(info: &Info, t: &Tweener) -> When
+    ensures { result ≡ tweener_due info.now t.now }
 {
-    let state = t.state;
-    match state {
+    match &t.state {
         TweenerState::Idle => When::Later,
-        TweenerState::Tweening(m) => {
-            let course = m.course;
-            course_due(info, course)
-        }
+        TweenerState::Tweening(m) => info.course_due(m.course),
     }
 }
 
-fn sight(info: Info, p: FloatParameter) -> Sight
-    ensures { result ≡ sight_of info p }
+fn turn_lfo(info: &Info, l: &mut Lfo, dt: f64)
+    ensures { l.new ≡ turn_lfo info.now l.old dt }
 {
-    Sight {
-        when: float_due(info, p),
-        input: float_source(info, p),
-    }
-}
-
-fn turn_lfo(info: Info, l: Lfo, dt: f64) -> Lfo
-    ensures { result ≡ turn_lfo info l dt }
-{
-    let frequency = l.frequency;
-    let amplitude = l.amplitude;
-    let offset = l.offset;
-    let all = LfoSight {
-        frequency: sight(info, frequency),
-        amplitude: sight(info, amplitude),
-        offset: sight(info, offset),
+    let sight = LfoSight {
+        frequency: info.sight(&l.frequency),
+        amplitude: info.sight(&l.amplitude),
+        offset: info.sight(&l.offset),
     };
-    update_lfo(l, dt, all)
-}
-
-fn turn_modulator(info: Info, m: Modulator, dt: f64) -> Modulator
-    ensures { result ≡ turn_modulator info m dt }
-{
-    match m {
-        Modulator::OfTweener(t) => {
-            Modulator::OfTweener(update_tweener(t, dt, tweener_due(info, t)))
-        }
-        Modulator::OfLfo(l) => Modulator::OfLfo(turn_lfo(info, l, dt)),
-    }
+    l.update(dt, sight);
 }
 
 // The turn of the modulator in a slot.
-pub fn turn_slot(info: Info, s: Slot, dt: f64) -> Slot
-    ensures { result ≡ turn_slot info s dt }
+#[tactic(auto, unfolding(crate::specs::Turns::turn_modulator))]
+pub fn turn_slot(info: &Info, s: &mut Slot, dt: f64)
+    ensures { s.new ≡ turn_slot info.now s.old dt }
 {
-    let m = s.modulator;
-    Slot {
-        modulator: turn_modulator(info, m, dt),
+    match &mut s.modulator {
+        Modulator::OfTweener(t) => {
+            let due = tweener_due(info, t);
+            t.update(dt, due);
+        }
+        Modulator::OfLfo(l) => turn_lfo(info, l, dt),
     }
 }
 
-pub fn turn_clock(info: Info, c: Clock, dt: f64) -> Moved
-    ensures { told_moved result ≡ turn_clock info c dt }
+// A clock that refuses stays as it was.
+#[tactic(auto, unfolding(crate::specs::Turns::turn_clock))]
+pub fn turn_clock(info: &Info, c: &mut Clock, dt: f64) -> Result<Option<u64>, Refusal>
+    ensures turned { moved_told result c.new ≡ turn_clock info.now c.old dt }
+    ensures kept { OnErr result (c.new ≡ c.old) }
 {
-    let p = c.speed;
-    update_clock(c, dt, speed_due(info, p), speed_source(info, p))
+    let sight = info.sight(&c.speed);
+    c.update(dt, sight)
 }

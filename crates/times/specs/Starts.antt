@@ -1,6 +1,6 @@
 -- Document 01, "start_time.rs": a start time by itself, and how it is brought forward. Assumes nothing.
 use Rattle.std.specs.Prelude.{ℕ, ◌-◌, Bool, true, false, cond, eqb, Float}
-use Rattle.judge.specs.Answer.{Answer, accepted, refused}
+use Rattle.judge.specs.Answer.{Answer, accepted}
 use Rattle.judge.specs.Judge.{no_faults, both_faults, dt_faults, span_faults, judged}
 use Rattle.times.specs.Durations.{nanos_of}
 use Rattle.times.specs.Times.{clock_time_faults}
@@ -11,8 +11,6 @@ use Rattle.times.specs.declared.start_time.StartTime.TheVariants.{Immediate, Del
 use Rattle.times.specs.declared.start_time.When.{When}
 use Rattle.times.specs.declared.start_time.When.TheVariants.{Now, Later, Never}
 use Rattle.times.specs.declared.start_time.Waited.{Waited}
-use Rattle.times.specs.declared.start_time.StartUp.{StartUp}
-use Rattle.times.specs.declared.start_time.StartUp.TheVariants.{Is, Refused}
 
 -- a delay is judged as a duration is, and a clock time as everywhere: RULES, start-time
 abbrev pub start_faults : StartTime → Faults
@@ -44,7 +42,3 @@ update_of (At t) dt w = awaited_of t w
 
 unfoldable pub try_update_of : StartTime → Float → When → Answer Waited
 try_update_of s dt w = judged (both_faults (dt_faults dt) (start_faults s)) (accepted (update_of s dt w))
-
-abbrev pub told_start : StartUp → Answer Waited
-told_start (Is w) = accepted w
-told_start (Refused n) = refused n

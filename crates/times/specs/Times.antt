@@ -1,31 +1,19 @@
 -- Document 01, "clock/time.rs": a time is its clock, whole ticks and a fraction: RULES, clock-time. How it is made,
 -- moved and compared; a double is subtracted by the rule of document 02, Req 01. Nothing here calls itself. Assumes
 -- nothing.
-use Prim.Native.Nat.{ℕ, ◌+◌, ◌-◌, ◌*◌, ◌^◌, compare, Ordering}
-use Rattle.std.specs.Prelude.{Bool, true, false, ◌&&◌, cond, ltb, eqb, Float}
+use Prim.Native.Nat as nat
+use Rattle.std.specs.Prelude.{ℕ, ◌+◌, ◌-◌, ◌*◌, ◌^◌, Bool, true, false, ◌&&◌, cond, ltb, eqb, Float, Option, None, Some}
+use Rattle.std.specs.declared.cmp.Ordering.{Ordering}
+use Rattle.std.specs.declared.cmp.Ordering.TheVariants.{Less, Equal, Greater}
 use Rattle.std.specs.Float.{binary64}
 use Rattle.std.specs.Float.Ieee.{add, sub, neg, lt, eq, to_unsigned}
 use Rattle.doubles.specs.Doubles.{sign_of, whole_of, fract_of, zero_f, one_f, scaled}
 use Rattle.ticks.specs.WholeTicks.{more_of}
-use Rattle.judge.specs.Answer.{Answer, accepted, refused, is_refused}
+use Rattle.judge.specs.Answer.{Answer, accepted, is_refused}
 use Rattle.judge.specs.Judge.{of_shift, both_faults, float_faults, fraction_faults, time_faults, answered, judged}
 use Rattle.judge.specs.declared.Faults.{Faults}
 use Rattle.times.specs.declared.time.ClockId.{ClockId}
 use Rattle.times.specs.declared.time.ClockTime.{ClockTime}
-use Rattle.times.specs.declared.time.Timed.{Timed}
-use Rattle.times.specs.declared.time.Timed.TheVariants as timed
-use Rattle.times.specs.declared.time.Order.{Order}
-use Rattle.times.specs.declared.time.Order.TheVariants.{Less, Equal, Greater, Unordered}
-use Rattle.times.specs.declared.time.Compared.{Compared}
-use Rattle.times.specs.declared.time.Compared.TheVariants as compared
-
-abbrev pub told_time : Timed → Answer ClockTime
-told_time (timed.At t) = accepted t
-told_time (timed.Refused n) = refused n
-
-abbrev pub told_order : Compared → Answer Order
-told_order (compared.Is o) = accepted o
-told_order (compared.Refused n) = refused n
 
 -- a time of a clock; every one is made so: RULES, clock-time
 abbrev pub time_at : ClockId → ℕ → Float → ClockTime
@@ -106,29 +94,29 @@ try_add_float_of t x = cond (sign_of x) (earlier_of t (neg x)) (later_of t x)
 unfoldable pub try_sub_float_of : ClockTime → Float → Answer ClockTime
 try_sub_float_of t x = cond (sign_of x) (later_of t (neg x)) (earlier_of t x)
 
--- fractions as Rust's `partial_cmp` orders doubles: RULES, time-order
-abbrev pub order_fractions : Float → Float → Order
-order_fractions f g = cond (lt f g) Less (cond (lt g f) Greater (cond (eq f g) Equal Unordered))
+-- fractions as Rust's `partial_cmp` orders doubles, a NaN not at all: RULES, time-order
+abbrev pub order_fractions : Float → Float → Option Ordering
+order_fractions f g = cond (lt f g) (Some Less) (cond (lt g f) (Some Greater) (cond (eq f g) (Some Equal) None))
 
 -- ticks first, then fractions
-abbrev pub order_ticks : Ordering → Float → Float → Order
-order_ticks Ordering.lt f g = Less
-order_ticks Ordering.eq f g = order_fractions f g
-order_ticks Ordering.gt f g = Greater
+abbrev pub order_ticks : nat.Ordering → Float → Float → Option Ordering
+order_ticks nat.Ordering.lt f g = Some Less
+order_ticks nat.Ordering.eq f g = order_fractions f g
+order_ticks nat.Ordering.gt f g = Some Greater
 
 -- times of two clocks, or of two generations of a slot, have no order: RULES, time-order
-unfoldable pub order_of : ClockTime → ClockTime → Order
+unfoldable pub order_of : ClockTime → ClockTime → Option Ordering
 order_of a b =
     cond (eqb a.clock.slot b.clock.slot && eqb a.clock.generation b.clock.generation)
-    (order_ticks (compare a.ticks b.ticks) a.fraction b.fraction)
-    Unordered
+    (order_ticks (nat.compare a.ticks b.ticks) a.fraction b.fraction)
+    None
 
 -- whether the first of two times is the earlier one: RULES, time-order
-abbrev pub is_less : Order → Bool
-is_less Less = true
-is_less Equal = false
-is_less Greater = false
-is_less Unordered = false
+abbrev pub is_less : Option Ordering → Bool
+is_less (Some Less) = true
+is_less (Some Equal) = false
+is_less (Some Greater) = false
+is_less None = false
 
-unfoldable pub try_order_of : ClockTime → ClockTime → Answer Order
+unfoldable pub try_order_of : ClockTime → ClockTime → Answer (Option Ordering)
 try_order_of a b = judged (both_faults (clock_time_faults a) (clock_time_faults b)) (accepted (order_of a b))

@@ -2,9 +2,9 @@
 ghost use Rattle.std.specs.Prelude.{◌≡◌, ◌*◌, ◌^◌, ◌<◌};
 ghost use Rattle.std.specs.Float.Ieee.Nearest.{closest};
 ghost use Rattle.times.specs.Durations.{nanos_of, seconds_of, try_seconds_of};
-ghost use Rattle.judge.specs.Answer.{told_float};
+ghost use Rattle.judge.specs.Answer.{told};
 
-use judge::{Floated, first_fault, span_faults};
+use judge::{Refusal, span_faults};
 
 // The whole number nearest to q * 5 ^ 9 / 2 ^ (k + 32), a tie to the even one. The product can need 85
 // bits, so it stands in two parts, `high` and the 32 lower bits of `low`.
@@ -58,10 +58,7 @@ pub fn nanos(dt: f64) -> u64
     }
     let full = seconds * 1_000_000_000;
     let part = rounded((q << (e - 1023)) % 0x10_0000_0000_0000, 11);
-    if part > 0xffff_ffff_ffff_ffff - full {
-        return 0xffff_ffff_ffff_ffff;
-    }
-    full + part
+    full.saturating_add(part)
 }
 
 // A duration in seconds: the whole ones, and the rest as a part of one.
@@ -73,12 +70,9 @@ pub fn as_secs_f64(ns: u64) -> f64
     whole as f64 + rest as f64 / 1000000000.0
 }
 
-pub fn try_as_secs_f64(ns: u64) -> Floated
-    ensures { told_float result ≡ try_seconds_of ns }
+pub fn try_as_secs_f64(ns: u64) -> Result<f64, Refusal>
+    ensures { told result ≡ try_seconds_of ns }
 {
-    let n = first_fault(span_faults(ns));
-    if n != 0 {
-        return Floated::Refused(n);
-    }
-    Floated::Is(as_secs_f64(ns))
+    span_faults(ns).accept()?;
+    Ok(as_secs_f64(ns))
 }

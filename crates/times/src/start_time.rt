@@ -1,10 +1,11 @@
 // Start times, as start_time.rs has them. What they need of clocks comes in as a small answer.
 ghost use Rattle.std.specs.Prelude.{◌≡◌};
-ghost use Rattle.times.specs.Starts.{start_faults, shorter_by, delay_of, awaited_of, update_of, try_update_of, told_start};
+ghost use Rattle.judge.specs.Answer.{told};
+ghost use Rattle.times.specs.Starts.{start_faults, shorter_by, delay_of, awaited_of, update_of, try_update_of};
 
 use crate::duration::nanos;
 use crate::time::{ClockTime, clock_time_faults};
-use judge::{Faults, both, dt_faults, first_fault, no_faults, span_faults};
+use judge::{Faults, Refusal, dt_faults, span_faults};
 
 #[derive(Clone, Copy)]
 pub enum StartTime {
@@ -14,31 +15,26 @@ pub enum StartTime {
 }
 
 // When a clock time is due: info.rs, `WhenToStart`.
-#[derive(Clone, Copy)]
+#[derive(Clone, Copy, PartialEq, Eq)]
 pub enum When {
     Now,
     Later,
     Never,
 }
 
-// A start time after an update, and whether it will never come.
+// A start time after an update, and whether it will never come. Each field says something in every case, so an Option
+// would be no plainer.
 #[derive(Clone, Copy)]
 pub struct Waited {
     pub never: bool,
     pub start: StartTime,
 }
 
-#[derive(Clone, Copy)]
-pub enum StartUp {
-    Is(Waited),
-    Refused(u32),
-}
-
 pub fn start_faults(s: StartTime) -> Faults
     ensures { result ≡ start_faults s }
 {
     match s {
-        StartTime::Immediate => no_faults(),
+        StartTime::Immediate => Faults::none(),
         StartTime::Delayed(ns) => span_faults(ns),
         StartTime::At(t) => clock_time_faults(t),
     }
@@ -48,11 +44,7 @@ pub fn start_faults(s: StartTime) -> Faults
 pub fn shorter(ns: u64, dt: f64) -> u64
     ensures { result ≡ shorter_by dt ns }
 {
-    let gone = nanos(dt);
-    if gone < ns {
-        return ns - gone;
-    }
-    0
+    ns.saturating_sub(nanos(dt))
 }
 
 // A delay after dt. With nothing left it is Immediate at once: RULES, delay-update.
@@ -103,12 +95,9 @@ pub fn update(s: StartTime, dt: f64, when: When) -> Waited
     }
 }
 
-pub fn try_update(s: StartTime, dt: f64, when: When) -> StartUp
-    ensures { told_start result ≡ try_update_of s dt when }
+pub fn try_update(s: StartTime, dt: f64, when: When) -> Result<Waited, Refusal>
+    ensures { told result ≡ try_update_of s dt when }
 {
-    let n = first_fault(both(dt_faults(dt), start_faults(s)));
-    if n != 0 {
-        return StartUp::Refused(n);
-    }
-    StartUp::Is(update(s, dt, when))
+    dt_faults(dt).and(start_faults(s)).accept()?;
+    Ok(update(s, dt, when))
 }

@@ -1,11 +1,11 @@
 // Easings and tweens, as tween.rs has them.
 ghost use Rattle.std.specs.Prelude.{◌≡◌};
-ghost use Rattle.judge.specs.Answer.{told_float};
+ghost use Rattle.judge.specs.Answer.{told};
 ghost use Rattle.times.specs.Easings.{power_of, in_out_of, apply_of, bad_power, ease_faults, tween_faults, try_apply_of, tween_value_of, default_tween};
 
 use crate::duration::as_secs_f64;
 use crate::start_time::{StartTime, start_faults};
-use judge::{Faults, Floated, both, first_fault, float_faults, no_faults, span_faults};
+use judge::{Faults, Refusal, float_faults, span_faults};
 
 #[derive(Clone, Copy)]
 pub enum Easing {
@@ -30,10 +30,8 @@ pub fn power(x: f64, n: u32) -> f64
         return 1.0;
     }
     let mut p = x;
-    let mut i: u32 = 1;
-    while i < n {
+    for _ in 1..n {
         p = p * x;
-        i += 1;
     }
     p
 }
@@ -71,43 +69,35 @@ fn bad_power(n: u32) -> bool
 pub fn ease_faults(e: Easing) -> Faults
     ensures { result ≡ ease_faults e }
 {
-    let mut f = no_faults();
-    f.ease = match e {
-        Easing::Linear => false,
-        Easing::InPowi(n) => bad_power(n),
-        Easing::OutPowi(n) => bad_power(n),
-        Easing::InOutPowi(n) => bad_power(n),
-    };
-    f
+    Faults {
+        ease: match e {
+            Easing::Linear => false,
+            Easing::InPowi(n) | Easing::OutPowi(n) | Easing::InOutPowi(n) => bad_power(n),
+        },
+        ..Faults::none()
+    }
 }
 
 pub fn tween_faults(t: Tween) -> Faults
     ensures { result ≡ tween_faults t }
 {
-    let start = t.start_time;
-    let easing = t.easing;
-    both(
-        both(start_faults(start), span_faults(t.duration)),
-        ease_faults(easing),
-    )
+    start_faults(t.start_time)
+        .and(span_faults(t.duration))
+        .and(ease_faults(t.easing))
 }
 
-pub fn try_apply(e: Easing, x: f64) -> Floated
-    ensures { told_float result ≡ try_apply_of e x }
+pub fn try_apply(e: Easing, x: f64) -> Result<f64, Refusal>
+    ensures { told result ≡ try_apply_of e x }
 {
-    let n = first_fault(both(ease_faults(e), float_faults(x)));
-    if n != 0 {
-        return Floated::Refused(n);
-    }
-    Floated::Is(apply(e, x))
+    ease_faults(e).and(float_faults(x)).accept()?;
+    Ok(apply(e, x))
 }
 
 // How far a tween has come at a time of its own, eased.
 pub fn tween_value(t: Tween, time: f64) -> f64
     ensures { result ≡ tween_value_of t time }
 {
-    let easing = t.easing;
-    apply(easing, time / as_secs_f64(t.duration))
+    apply(t.easing, time / as_secs_f64(t.duration))
 }
 
 // The tween of a caller that names none.

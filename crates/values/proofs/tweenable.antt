@@ -1,2 +1,4 @@
--- What the modules and crates above cite: `Outcomes` on the statements themselves.
+-- What the modules and crates above cite: `Floats` on the definitions at doubles, `Outcomes` on the statements
+-- themselves.
+pub mod Floats
 pub mod Outcomes

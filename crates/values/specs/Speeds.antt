@@ -1,16 +1,14 @@
 -- Document 01, "Speeds": the three units, their ranges, reading, interpolation, and BAD_SPEED. Assumes nothing.
-use Rattle.std.specs.Prelude.{Bool, false, not, ◌&&◌, ◌||◌, pos, negsuc, Float}
+use Rattle.std.specs.Prelude.{ℕ, Bool, false, not, ◌&&◌, ◌||◌, eqb, pos, negsuc, Float}
 use Rattle.std.specs.Float.{fin, binary64}
 use Rattle.std.specs.Float.Ieee.{mul, div, lt, le, eq}
 use Rattle.doubles.specs.Doubles.{finite_of, zero_f, one_f}
-use Rattle.values.specs.Tweenables.{interpolate_of}
-use Rattle.judge.specs.Answer.{Answer, accepted, refused}
-use Rattle.judge.specs.Judge.{both_faults, float_faults, judged}
+use Rattle.values.specs.Tweenables.{Tweens, interpolate_of}
+use Rattle.judge.specs.Answer.{Answer, accepted}
+use Rattle.judge.specs.Judge.{judged}
 use Rattle.judge.specs.declared.Faults.{Faults}
 use Rattle.values.specs.declared.clock_speed.ClockSpeed.{ClockSpeed}
 use Rattle.values.specs.declared.clock_speed.ClockSpeed.TheVariants.{SecondsPerTick, TicksPerSecond, TicksPerMinute}
-use Rattle.values.specs.declared.clock_speed.Speeded.{Speeded}
-use Rattle.values.specs.declared.clock_speed.Speeded.TheVariants.{Is, Refused}
 
 abbrev pub sixty_f : Float
 sixty_f = fin false 15 (pos 2)
@@ -67,6 +65,19 @@ speed_faults s = faults_of_speed (bad_speed s)
 abbrev pub read_faults : ClockSpeed → ClockSpeed → Faults
 read_faults s target = faults_of_speed (bad_reading s target)
 
+-- a number for each unit: RULES, speed-units
+abbrev pub unit_of : ClockSpeed → ℕ
+unit_of (SecondsPerTick x) = 0
+unit_of (TicksPerSecond x) = 1
+unit_of (TicksPerMinute x) = 2
+
+-- BAD_SPEED: an end outside the range, or two ends that do not share a unit: RULES, bad-speed
+abbrev pub end_faults : ClockSpeed → ClockSpeed → Faults
+end_faults a b = faults_of_speed (bad_speed a || bad_speed b || not (eqb (unit_of a) (unit_of b)))
+
+abbrev pub speed_tweens : Tweens ClockSpeed
+speed_tweens = record { between = interpolate_speed_of; wrong = speed_faults; wrong_ends = end_faults; unreadable = read_faults }
+
 unfoldable pub try_spt_of : ClockSpeed → Answer Float
 try_spt_of s = judged (speed_faults s) (accepted (spt_of s))
 
@@ -75,12 +86,3 @@ try_tps_of s = judged (speed_faults s) (accepted (tps_of s))
 
 unfoldable pub try_tpm_of : ClockSpeed → Answer Float
 try_tpm_of s = judged (speed_faults s) (accepted (tpm_of s))
-
-unfoldable pub try_interpolate_speed_of : ClockSpeed → ClockSpeed → Float → Answer ClockSpeed
-try_interpolate_speed_of a b amount =
-    judged (both_faults (both_faults (both_faults (speed_faults a) (speed_faults b)) (read_faults a b)) (float_faults amount))
-    (accepted (interpolate_speed_of a b amount))
-
-abbrev pub told_speed : Speeded → Answer ClockSpeed
-told_speed (Is s) = accepted s
-told_speed (Refused n) = refused n

@@ -1,35 +1,19 @@
--- Document 01, "value.rs": values and mappings, for f64 and for speeds. Assumes nothing.
-use Rattle.std.specs.Prelude.{ℕ, false, not, ◌||◌, eqb, Float}
+-- Document 01, "value.rs": values and mappings, of what can be tweened. Assumes nothing.
+use Rattle.std.specs.Prelude.{false, Option, None, Some, Float}
 use Rattle.std.specs.Float.{binary64}
 use Rattle.std.specs.Float.Ieee.{add, sub, mul, div, rem, neg, eq}
 use Rattle.doubles.specs.Doubles.{clamp_of}
-use Rattle.judge.specs.Answer.{Answer, accepted, refused}
+use Rattle.judge.specs.Answer.{Answer, accepted}
 use Rattle.judge.specs.Judge.{no_faults, both_faults, float_faults, judged}
-use Rattle.values.specs.Speeds.{interpolate_speed_of, bad_speed, faults_of_speed}
-use Rattle.values.specs.Tweenables.{interpolate_of}
+use Rattle.values.specs.Tweenables.{Tweens, float_tweens}
 use Rattle.judge.specs.declared.Faults.{Faults}
-use Rattle.values.specs.declared.clock_speed.ClockSpeed.{ClockSpeed}
-use Rattle.values.specs.declared.clock_speed.ClockSpeed.TheVariants.{SecondsPerTick, TicksPerSecond, TicksPerMinute}
 use Rattle.times.specs.Easings.{apply_of, ease_faults}
 use Rattle.times.specs.declared.tween.Easing.{Easing}
-use Rattle.values.specs.declared.value.FloatMapping.{FloatMapping}
-use Rattle.values.specs.declared.value.SpeedMapping.{SpeedMapping}
-use Rattle.values.specs.declared.value.FloatValue.{FloatValue}
-use Rattle.values.specs.declared.value.FloatValue.TheVariants as float
-use Rattle.values.specs.declared.value.SpeedValue.{SpeedValue}
-use Rattle.values.specs.declared.value.SpeedValue.TheVariants as speed
-use Rattle.values.specs.declared.value.Input.{Input}
-use Rattle.values.specs.declared.value.Input.TheVariants as input
-use Rattle.values.specs.declared.value.RawFloat.{RawFloat}
-use Rattle.values.specs.declared.value.RawFloat.TheVariants as rawFloat
-use Rattle.values.specs.declared.value.RawSpeed.{RawSpeed}
-use Rattle.values.specs.declared.value.RawSpeed.TheVariants as rawSpeed
+use Rattle.values.specs.declared.value.Mapping.{Mapping}
+use Rattle.values.specs.declared.value.Value.{Value}
+use Rattle.values.specs.declared.value.Value.TheVariants.{Fixed, FromModulator}
 use Rattle.values.specs.declared.value.Op.{Op}
 use Rattle.values.specs.declared.value.Op.TheVariants as op
-use Rattle.values.specs.declared.value.Mapped.{Mapped}
-use Rattle.values.specs.declared.value.Mapped.TheVariants as mapped
-use Rattle.values.specs.declared.value.Valued.{Valued}
-use Rattle.values.specs.declared.value.Valued.TheVariants as valued
 
 -- ---- mappings
 
@@ -38,11 +22,8 @@ unfoldable pub amount_of : Float → Float → Easing → Float → Float
 amount_of lo hi e x = apply_of e (clamp_of (div binary64 (sub binary64 x lo) (sub binary64 hi lo)))
 
 -- that far from one output end to the other: RULES, mapping
-unfoldable pub map_float_of : FloatMapping → Float → Float
-map_float_of m x = interpolate_of m.out_lo m.out_hi (amount_of m.in_lo m.in_hi m.easing x)
-
-unfoldable pub map_speed_of : SpeedMapping → Float → ClockSpeed
-map_speed_of m x = interpolate_speed_of m.out_lo m.out_hi (amount_of m.in_lo m.in_hi m.easing x)
+unfoldable pub map_of : {T : Type 0} → Tweens T → Mapping T → Float → T
+map_of k m x = k.between m.out_lo m.out_hi (amount_of m.in_lo m.in_hi m.easing x)
 
 -- ---- what is refused
 
@@ -53,47 +34,22 @@ map_faults lo hi = record { dt = false; float = false; speed = false; ease = fal
 abbrev pub range_faults : Float → Float → Easing → Faults
 range_faults lo hi e = both_faults (both_faults (map_faults lo hi) (ease_faults e)) (both_faults (float_faults lo) (float_faults hi))
 
-abbrev pub float_map_faults : FloatMapping → Faults
-float_map_faults m = both_faults (range_faults m.in_lo m.in_hi m.easing) (both_faults (float_faults m.out_lo) (float_faults m.out_hi))
+abbrev pub mapping_faults : {T : Type 0} → Tweens T → Mapping T → Faults
+mapping_faults k m = both_faults (range_faults m.in_lo m.in_hi m.easing) (k.wrong_ends m.out_lo m.out_hi)
 
--- a number for each unit: RULES, speed-units
-abbrev pub unit_of : ClockSpeed → ℕ
-unit_of (SecondsPerTick x) = 0
-unit_of (TicksPerSecond x) = 1
-unit_of (TicksPerMinute x) = 2
+abbrev pub value_faults : {T : Type 0} → Tweens T → Value T → Faults
+value_faults k (Fixed x) = k.wrong x
+value_faults k (FromModulator i m) = mapping_faults k m
 
--- BAD_SPEED: an end outside the range, or two ends that do not share a unit: RULES, bad-speed
-abbrev pub end_faults : ClockSpeed → ClockSpeed → Faults
-end_faults a b = faults_of_speed (bad_speed a || bad_speed b || not (eqb (unit_of a) (unit_of b)))
-
-abbrev pub speed_map_faults : SpeedMapping → Faults
-speed_map_faults m = both_faults (range_faults m.in_lo m.in_hi m.easing) (end_faults m.out_lo m.out_hi)
-
-abbrev pub float_value_faults : FloatValue → Faults
-float_value_faults (float.Fixed x) = float_faults x
-float_value_faults (float.FromModulator i m) = float_map_faults m
-
-abbrev pub speed_value_faults : SpeedValue → Faults
-speed_value_faults (speed.Fixed s) = faults_of_speed (bad_speed s)
-speed_value_faults (speed.FromModulator i m) = speed_map_faults m
-
-unfoldable pub try_map_float_of : FloatMapping → Float → Answer Float
-try_map_float_of m x = judged (both_faults (float_map_faults m) (float_faults x)) (accepted (map_float_of m x))
-
-unfoldable pub try_map_speed_of : SpeedMapping → Float → Answer ClockSpeed
-try_map_speed_of m x = judged (both_faults (speed_map_faults m) (float_faults x)) (accepted (map_speed_of m x))
+unfoldable pub try_map_of : {T : Type 0} → Tweens T → Mapping T → Float → Answer T
+try_map_of k m x = judged (both_faults (mapping_faults k m) (float_faults x)) (accepted (map_of k m x))
 
 -- ---- a value that is fixed, or linked to a modulator and then none where that does not live: RULES, value
 
-abbrev pub raw_float_of : FloatValue → Input → RawFloat
-raw_float_of (float.Fixed x) i = rawFloat.Is x
-raw_float_of (float.FromModulator id m) (input.Is x) = rawFloat.Is (map_float_of m x)
-raw_float_of (float.FromModulator id m) input.None = rawFloat.None
-
-abbrev pub raw_speed_of : SpeedValue → Input → RawSpeed
-raw_speed_of (speed.Fixed s) i = rawSpeed.Is s
-raw_speed_of (speed.FromModulator id m) (input.Is x) = rawSpeed.Is (map_speed_of m x)
-raw_speed_of (speed.FromModulator id m) input.None = rawSpeed.None
+abbrev pub raw_of : {T : Type 0} → Tweens T → Value T → Option Float → Option T
+raw_of k (Fixed x) i = Some x
+raw_of k (FromModulator id m) (Some x) = Some (map_of k m x)
+raw_of k (FromModulator id m) None = None
 
 -- ---- arithmetic on a value, or on both output ends of a mapping: RULES, output-arithmetic
 
@@ -113,24 +69,16 @@ op_faults (op.Div y) = float_faults y
 op_faults (op.Rem y) = float_faults y
 op_faults op.Neg = no_faults
 
-abbrev pub map_output_of : FloatMapping → Op → FloatMapping
+abbrev pub map_output_of : Mapping Float → Op → Mapping Float
 map_output_of m o = record { in_lo = m.in_lo; in_hi = m.in_hi; out_lo = made_of o m.out_lo; out_hi = made_of o m.out_hi; easing = m.easing }
 
-abbrev pub value_output_of : FloatValue → Op → FloatValue
-value_output_of (float.Fixed x) o = float.Fixed (made_of o x)
-value_output_of (float.FromModulator i m) o = float.FromModulator i (map_output_of m o)
+abbrev pub value_output_of : Value Float → Op → Value Float
+value_output_of (Fixed x) o = Fixed (made_of o x)
+value_output_of (FromModulator i m) o = FromModulator i (map_output_of m o)
 
 -- BAD_FLOAT for what went in, and for what comes out: RULES, bad-float
-unfoldable pub try_map_output_of : FloatMapping → Op → Answer FloatMapping
-try_map_output_of m o = judged (both_faults (both_faults (float_map_faults m) (op_faults o)) (float_map_faults (map_output_of m o))) (accepted (map_output_of m o))
+unfoldable pub try_map_output_of : Mapping Float → Op → Answer (Mapping Float)
+try_map_output_of m o = judged (both_faults (both_faults (mapping_faults float_tweens m) (op_faults o)) (mapping_faults float_tweens (map_output_of m o))) (accepted (map_output_of m o))
 
-unfoldable pub try_value_output_of : FloatValue → Op → Answer FloatValue
-try_value_output_of v o = judged (both_faults (both_faults (float_value_faults v) (op_faults o)) (float_value_faults (value_output_of v o))) (accepted (value_output_of v o))
-
-abbrev pub told_map : Mapped → Answer FloatMapping
-told_map (mapped.Is m) = accepted m
-told_map (mapped.Refused n) = refused n
-
-abbrev pub told_value : Valued → Answer FloatValue
-told_value (valued.Is v) = accepted v
-told_value (valued.Refused n) = refused n
+unfoldable pub try_value_output_of : Value Float → Op → Answer (Value Float)
+try_value_output_of v o = judged (both_faults (both_faults (value_faults float_tweens v) (op_faults o)) (value_faults float_tweens (value_output_of v o))) (accepted (value_output_of v o))

@@ -1,10 +1,10 @@
 // The rate that a clock ticks at, as clock/clock_speed.rs has it.
-ghost use Rattle.std.specs.Prelude.{◌≡◌};
-ghost use Rattle.judge.specs.Answer.{told_float};
-ghost use Rattle.values.specs.Speeds.{spt_of, tps_of, tpm_of, interpolate_speed_of, speed_faults, read_faults, try_spt_of, try_tps_of, try_tpm_of, try_interpolate_speed_of, told_speed, read_in_of, in_range};
+ghost use Rattle.std.specs.Prelude.{◌≡◌, eqb};
+ghost use Rattle.judge.specs.Answer.{told};
+ghost use Rattle.values.specs.Speeds.{spt_of, tps_of, tpm_of, try_spt_of, try_tps_of, try_tpm_of, read_in_of, in_range, unit_of, speed_tweens};
 
-use crate::tweenable::interpolate;
-use judge::{Faults, Floated, both, first_fault, float_faults, no_faults};
+use crate::tweenable::Tweenable;
+use judge::{Faults, Refusal};
 
 #[derive(Clone, Copy)]
 pub enum ClockSpeed {
@@ -13,63 +13,80 @@ pub enum ClockSpeed {
     TicksPerMinute(f64),
 }
 
-// A speed, or the number of a refusal.
-#[derive(Clone, Copy)]
-pub enum Speeded {
-    Is(ClockSpeed),
-    Refused(u32),
-}
-
-pub fn as_seconds_per_tick(s: ClockSpeed) -> f64
-    ensures { result ≡ spt_of s }
-{
-    match s {
-        ClockSpeed::SecondsPerTick(x) => x,
-        ClockSpeed::TicksPerSecond(x) => 1.0 / x,
-        ClockSpeed::TicksPerMinute(x) => 60.0 / x,
+impl ClockSpeed {
+    pub fn as_seconds_per_tick(self) -> f64
+        ensures { result ≡ spt_of self }
+    {
+        match self {
+            ClockSpeed::SecondsPerTick(x) => x,
+            ClockSpeed::TicksPerSecond(x) => 1.0 / x,
+            ClockSpeed::TicksPerMinute(x) => 60.0 / x,
+        }
     }
-}
 
-pub fn as_ticks_per_second(s: ClockSpeed) -> f64
-    ensures { result ≡ tps_of s }
-{
-    match s {
-        ClockSpeed::SecondsPerTick(x) => 1.0 / x,
-        ClockSpeed::TicksPerSecond(x) => x,
-        ClockSpeed::TicksPerMinute(x) => x / 60.0,
+    pub fn as_ticks_per_second(self) -> f64
+        ensures { result ≡ tps_of self }
+    {
+        match self {
+            ClockSpeed::SecondsPerTick(x) => 1.0 / x,
+            ClockSpeed::TicksPerSecond(x) => x,
+            ClockSpeed::TicksPerMinute(x) => x / 60.0,
+        }
     }
-}
 
-pub fn as_ticks_per_minute(s: ClockSpeed) -> f64
-    ensures { result ≡ tpm_of s }
-{
-    match s {
-        ClockSpeed::SecondsPerTick(x) => 60.0 / x,
-        ClockSpeed::TicksPerSecond(x) => x * 60.0,
-        ClockSpeed::TicksPerMinute(x) => x,
+    pub fn as_ticks_per_minute(self) -> f64
+        ensures { result ≡ tpm_of self }
+    {
+        match self {
+            ClockSpeed::SecondsPerTick(x) => 60.0 / x,
+            ClockSpeed::TicksPerSecond(x) => x * 60.0,
+            ClockSpeed::TicksPerMinute(x) => x,
+        }
     }
-}
 
-// A speed read in the unit of another.
-pub fn read_in(s: ClockSpeed, unit: ClockSpeed) -> f64
-    ensures { result ≡ read_in_of s unit }
-{
-    match unit {
-        ClockSpeed::SecondsPerTick(_) => as_seconds_per_tick(s),
-        ClockSpeed::TicksPerSecond(_) => as_ticks_per_second(s),
-        ClockSpeed::TicksPerMinute(_) => as_ticks_per_minute(s),
+    // A speed read in the unit of another.
+    pub fn read_in(self, unit: ClockSpeed) -> f64
+        ensures { result ≡ read_in_of self unit }
+    {
+        match unit {
+            ClockSpeed::SecondsPerTick(_) => self.as_seconds_per_tick(),
+            ClockSpeed::TicksPerSecond(_) => self.as_ticks_per_second(),
+            ClockSpeed::TicksPerMinute(_) => self.as_ticks_per_minute(),
+        }
     }
-}
 
-// Interpolated in the target's unit.
-pub fn interpolate_speed(a: ClockSpeed, b: ClockSpeed, amount: f64) -> ClockSpeed
-    ensures { result ≡ interpolate_speed_of a b amount }
-{
-    let start = read_in(a, b);
-    match b {
-        ClockSpeed::SecondsPerTick(y) => ClockSpeed::SecondsPerTick(interpolate(start, y, amount)),
-        ClockSpeed::TicksPerSecond(y) => ClockSpeed::TicksPerSecond(interpolate(start, y, amount)),
-        ClockSpeed::TicksPerMinute(y) => ClockSpeed::TicksPerMinute(interpolate(start, y, amount)),
+    #[tactic(auto, using(judge::proofs::Judged::passed_up, judge::proofs::Judged::goes_on), unfolding(crate::specs::Speeds::try_spt_of))]
+    pub fn try_as_seconds_per_tick(self) -> Result<f64, Refusal>
+        ensures { told result ≡ try_spt_of self }
+    {
+        self.faults().accept()?;
+        Ok(self.as_seconds_per_tick())
+    }
+
+    #[tactic(auto, using(judge::proofs::Judged::passed_up, judge::proofs::Judged::goes_on), unfolding(crate::specs::Speeds::try_tps_of))]
+    pub fn try_as_ticks_per_second(self) -> Result<f64, Refusal>
+        ensures { told result ≡ try_tps_of self }
+    {
+        self.faults().accept()?;
+        Ok(self.as_ticks_per_second())
+    }
+
+    #[tactic(auto, using(judge::proofs::Judged::passed_up, judge::proofs::Judged::goes_on), unfolding(crate::specs::Speeds::try_tpm_of))]
+    pub fn try_as_ticks_per_minute(self) -> Result<f64, Refusal>
+        ensures { told result ≡ try_tpm_of self }
+    {
+        self.faults().accept()?;
+        Ok(self.as_ticks_per_minute())
+    }
+
+    fn shares_unit(self, other: ClockSpeed) -> bool
+        ensures { result ≡ eqb (unit_of self) (unit_of other) }
+    {
+        match self {
+            ClockSpeed::SecondsPerTick(_) => matches!(other, ClockSpeed::SecondsPerTick(_)),
+            ClockSpeed::TicksPerSecond(_) => matches!(other, ClockSpeed::TicksPerSecond(_)),
+            ClockSpeed::TicksPerMinute(_) => matches!(other, ClockSpeed::TicksPerMinute(_)),
+        }
     }
 }
 
@@ -80,65 +97,48 @@ fn in_range(x: f64) -> bool
     (x >= 0.00000095367431640625) & (x <= 1048576.0)
 }
 
-pub fn speed_faults(s: ClockSpeed) -> Faults
-    ensures { result ≡ speed_faults s }
-{
-    let mut f = no_faults();
-    f.speed = match s {
-        ClockSpeed::SecondsPerTick(x) => !in_range(x),
-        ClockSpeed::TicksPerSecond(x) => !((x == 0.0) | in_range(x)),
-        ClockSpeed::TicksPerMinute(x) => !((x == 0.0) | in_range(x)),
-    };
-    f
-}
+impl Tweenable for ClockSpeed {
+    ghost tweens = { speed_tweens };
 
-// A start or a present speed that cannot be read in the target's unit.
-pub fn read_faults(s: ClockSpeed, target: ClockSpeed) -> Faults
-    ensures { result ≡ read_faults s target }
-{
-    let x = read_in(s, target);
-    let mut f = no_faults();
-    f.speed = !doubles::is_finite(x) | (x > 134217728.0);
-    f
-}
-
-pub fn try_as_seconds_per_tick(s: ClockSpeed) -> Floated
-    ensures { told_float result ≡ try_spt_of s }
-{
-    let n = first_fault(speed_faults(s));
-    if n != 0 {
-        return Floated::Refused(n);
+    // Interpolated in the target's unit.
+    #[tactic(auto, unfolding(crate::specs::Speeds::interpolate_speed_of))]
+    fn interpolate(a: ClockSpeed, b: ClockSpeed, amount: f64) -> ClockSpeed {
+        let start = a.read_in(b);
+        match b {
+            ClockSpeed::SecondsPerTick(y) => {
+                ClockSpeed::SecondsPerTick(f64::interpolate(start, y, amount))
+            }
+            ClockSpeed::TicksPerSecond(y) => {
+                ClockSpeed::TicksPerSecond(f64::interpolate(start, y, amount))
+            }
+            ClockSpeed::TicksPerMinute(y) => {
+                ClockSpeed::TicksPerMinute(f64::interpolate(start, y, amount))
+            }
+        }
     }
-    Floated::Is(as_seconds_per_tick(s))
-}
 
-pub fn try_as_ticks_per_second(s: ClockSpeed) -> Floated
-    ensures { told_float result ≡ try_tps_of s }
-{
-    let n = first_fault(speed_faults(s));
-    if n != 0 {
-        return Floated::Refused(n);
+    fn faults(self) -> Faults {
+        let mut f = Faults::none();
+        f.speed = match self {
+            ClockSpeed::SecondsPerTick(x) => !in_range(x),
+            ClockSpeed::TicksPerSecond(x) | ClockSpeed::TicksPerMinute(x) => {
+                !((x == 0.0) | in_range(x))
+            }
+        };
+        f
     }
-    Floated::Is(as_ticks_per_second(s))
-}
 
-pub fn try_as_ticks_per_minute(s: ClockSpeed) -> Floated
-    ensures { told_float result ≡ try_tpm_of s }
-{
-    let n = first_fault(speed_faults(s));
-    if n != 0 {
-        return Floated::Refused(n);
+    // Two ends of one mapping share a unit.
+    fn end_faults(lo: ClockSpeed, hi: ClockSpeed) -> Faults {
+        let mut f = lo.faults().and(hi.faults());
+        f.speed = f.speed | !lo.shares_unit(hi);
+        f
     }
-    Floated::Is(as_ticks_per_minute(s))
-}
 
-pub fn try_interpolate_speed(a: ClockSpeed, b: ClockSpeed, amount: f64) -> Speeded
-    ensures { told_speed result ≡ try_interpolate_speed_of a b amount }
-{
-    let speeds = both(both(speed_faults(a), speed_faults(b)), read_faults(a, b));
-    let n = first_fault(both(speeds, float_faults(amount)));
-    if n != 0 {
-        return Speeded::Refused(n);
+    fn read_faults(self, target: ClockSpeed) -> Faults {
+        let x = self.read_in(target);
+        let mut f = Faults::none();
+        f.speed = !doubles::is_finite(x) | (x > 134217728.0);
+        f
     }
-    Speeded::Is(interpolate_speed(a, b, amount))
 }

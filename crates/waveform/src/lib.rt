@@ -2,10 +2,10 @@
 #![tactic(auto)]
 
 ghost use Rattle.std.specs.Prelude.{◌≡◌};
-ghost use Rattle.judge.specs.Answer.{told_float};
+ghost use Rattle.judge.specs.Answer.{told};
 ghost use Rattle.waveform.specs.Waves.{pulse_of, wave_value_of, wave_faults, try_wave_value_of};
 
-use judge::{Faults, Floated, both, first_fault, float_faults, no_faults};
+use judge::{Faults, Refusal, float_faults};
 
 #[derive(Clone, Copy)]
 pub enum Waveform {
@@ -39,18 +39,14 @@ pub fn wave_faults(w: Waveform) -> Faults
     ensures { result ≡ wave_faults w }
 {
     match w {
-        Waveform::Triangle => no_faults(),
-        Waveform::Saw => no_faults(),
+        Waveform::Triangle | Waveform::Saw => Faults::none(),
         Waveform::Pulse(width) => float_faults(width),
     }
 }
 
-pub fn try_wave_value(w: Waveform, phase: f64) -> Floated
-    ensures { told_float result ≡ try_wave_value_of w phase }
+pub fn try_wave_value(w: Waveform, phase: f64) -> Result<f64, Refusal>
+    ensures { told result ≡ try_wave_value_of w phase }
 {
-    let n = first_fault(both(wave_faults(w), float_faults(phase)));
-    if n != 0 {
-        return Floated::Refused(n);
-    }
-    Floated::Is(wave_value(w, phase))
+    wave_faults(w).and(float_faults(phase)).accept()?;
+    Ok(wave_value(w, phase))
 }

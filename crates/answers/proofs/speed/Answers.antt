@@ -1,11 +1,6 @@
--- `answers::speed` is proved: each unit has its word, with the double behind it. Assumes nothing.
+-- A speed's text is found by the search. One arm is answered here, so that a must-fail edit can name its goal.
+use Rattle.std.proofs.Common.{rules}
 use Rattle.answers.proofs.speed.Goals as goal
 
 pub returns-in-SecondsPerTick : goal.returns-in-SecondsPerTick
-returns-in-SecondsPerTick c = rw c.in-SecondsPerTick.is c.named.ensures
-
-pub returns-in-TicksPerSecond : goal.returns-in-TicksPerSecond
-returns-in-TicksPerSecond c = rw c.in-TicksPerSecond.is c.named-in-TicksPerSecond.ensures
-
-pub returns-in-TicksPerMinute : goal.returns-in-TicksPerMinute
-returns-in-TicksPerMinute c = rw c.in-TicksPerMinute.is c.named-in-TicksPerMinute.ensures
+returns-in-SecondsPerTick c = search rules

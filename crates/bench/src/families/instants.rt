@@ -1,117 +1,65 @@
 // The calls time.*.
-use grammar::{FloatAt, NumberAt, TimeAt};
+use digits::Out;
+use judge::Refusal;
 use names::TimeCall;
+use std::cmp::Ordering;
+use text::words::Words;
 use times::time::{
-    ClockId, Compared, Order, Timed, from_ticks_u64, try_add_f64, try_add_u64, try_from_ticks_f64,
+    ClockId, ClockTime, from_ticks_u64, try_add_f64, try_add_u64, try_from_ticks_f64,
     try_partial_cmp, try_sub_f64, try_sub_u64,
 };
 
 // A time that is written without its clock has this one.
-fn no_clock() -> ClockId {
-    ClockId {
-        slot: 0,
-        generation: 0,
-    }
-}
+const NO_CLOCK: ClockId = ClockId {
+    slot: 0,
+    generation: 0,
+};
 
-fn timed(out: &mut [u8], r: Timed) -> usize {
-    match r {
-        Timed::At(t) => {
-            let at = answers::time(out, 0, t);
-            digits::end(out, at)
+// The time that a call gives. Where it is refused the line is a call all the same.
+fn time(mut words: Words<'_>, call: TimeCall) -> Option<Result<ClockTime, Refusal>> {
+    let told = match call {
+        TimeCall::FromU => Ok(from_ticks_u64(NO_CLOCK, grammar::number(&mut words)?)),
+        TimeCall::FromF => try_from_ticks_f64(NO_CLOCK, grammar::float(&mut words)?),
+        TimeCall::AddF => {
+            let t = grammar::time(&mut words, NO_CLOCK)?;
+            try_add_f64(t, grammar::float(&mut words)?)
         }
-        Timed::Refused(n) => answers::refused(out, n),
-    }
+        TimeCall::SubF => {
+            let t = grammar::time(&mut words, NO_CLOCK)?;
+            try_sub_f64(t, grammar::float(&mut words)?)
+        }
+        TimeCall::AddU => {
+            let t = grammar::time(&mut words, NO_CLOCK)?;
+            try_add_u64(t, grammar::number(&mut words)?)
+        }
+        TimeCall::SubU => {
+            let t = grammar::time(&mut words, NO_CLOCK)?;
+            try_sub_u64(t, grammar::number(&mut words)?)
+        }
+        TimeCall::Cmp => return None,
+    };
+    grammar::end(&words)?;
+    Some(told)
 }
 
-fn compared(out: &mut [u8], r: Compared) -> usize {
-    match r {
-        Compared::Is(o) => match o {
-            Order::Less => digits::put(out, 0, b"lt\n"),
-            Order::Equal => digits::put(out, 0, b"eq\n"),
-            Order::Greater => digits::put(out, 0, b"gt\n"),
-            Order::Unordered => digits::put(out, 0, b"none\n"),
-        },
-        Compared::Refused(n) => answers::refused(out, n),
-    }
+fn cmp(mut words: Words<'_>, out: &mut Out) -> Option<()> {
+    let a = grammar::clock_time(&mut words)?;
+    let b = grammar::clock_time(&mut words)?;
+    grammar::end(&words)?;
+    let n = match try_partial_cmp(a, b) {
+        Ok(Some(Ordering::Less)) => out.put(b"lt\n"),
+        Ok(Some(Ordering::Equal)) => out.put(b"eq\n"),
+        Ok(Some(Ordering::Greater)) => out.put(b"gt\n"),
+        Ok(None) => out.put(b"none\n"),
+        Err(r) => answers::refused(out, r),
+    };
+    Some(n)
 }
 
-fn from_u64(line: &[u8], at: usize, out: &mut [u8]) -> usize {
-    let NumberAt::Is(ticks, to) = grammar::number(line, at) else {
-        return 0;
-    };
-    if !grammar::ended(line, to) {
-        return 0;
+pub fn call(words: Words<'_>, call: TimeCall, out: &mut Out) -> Option<()> {
+    if let TimeCall::Cmp = call {
+        return cmp(words, out);
     }
-    timed(out, Timed::At(from_ticks_u64(no_clock(), ticks)))
-}
-
-fn from_f64(line: &[u8], at: usize, out: &mut [u8]) -> usize {
-    let FloatAt::Is(x, to) = grammar::float(line, at) else {
-        return 0;
-    };
-    if !grammar::ended(line, to) {
-        return 0;
-    }
-    timed(out, try_from_ticks_f64(no_clock(), x))
-}
-
-// A time and a double: with `back` subtracted, else added.
-fn shift_f64(line: &[u8], at: usize, back: bool, out: &mut [u8]) -> usize {
-    let TimeAt::Is(t, behind) = grammar::time(line, at, no_clock()) else {
-        return 0;
-    };
-    let FloatAt::Is(x, to) = grammar::float(line, behind) else {
-        return 0;
-    };
-    if !grammar::ended(line, to) {
-        return 0;
-    }
-    if back {
-        return timed(out, try_sub_f64(t, x));
-    }
-    timed(out, try_add_f64(t, x))
-}
-
-// A time and whole ticks: with `back` subtracted, else added.
-fn shift_u64(line: &[u8], at: usize, back: bool, out: &mut [u8]) -> usize {
-    let TimeAt::Is(t, behind) = grammar::time(line, at, no_clock()) else {
-        return 0;
-    };
-    let NumberAt::Is(n, to) = grammar::number(line, behind) else {
-        return 0;
-    };
-    if !grammar::ended(line, to) {
-        return 0;
-    }
-    if back {
-        return timed(out, try_sub_u64(t, n));
-    }
-    timed(out, try_add_u64(t, n))
-}
-
-fn cmp(line: &[u8], at: usize, out: &mut [u8]) -> usize {
-    let TimeAt::Is(a, behind) = grammar::clock_time(line, at) else {
-        return 0;
-    };
-    let TimeAt::Is(b, to) = grammar::clock_time(line, behind) else {
-        return 0;
-    };
-    if !grammar::ended(line, to) {
-        return 0;
-    }
-    compared(out, try_partial_cmp(a, b))
-}
-
-// The answer's length, or 0 where the line is no call.
-pub fn call(line: &[u8], at: usize, call: TimeCall, out: &mut [u8]) -> usize {
-    match call {
-        TimeCall::FromU => from_u64(line, at, out),
-        TimeCall::FromF => from_f64(line, at, out),
-        TimeCall::AddF => shift_f64(line, at, false, out),
-        TimeCall::SubF => shift_f64(line, at, true, out),
-        TimeCall::AddU => shift_u64(line, at, false, out),
-        TimeCall::SubU => shift_u64(line, at, true, out),
-        TimeCall::Cmp => cmp(line, at, out),
-    }
+    answers::reply(out, time(words, call)?);
+    Some(())
 }

@@ -6,24 +6,23 @@ use mathlib.Core.Path.{◌≡◌, refl, sym, ap, ◌∙◌}
 use mathlib.Core.Bool.{Bool, true, false, not, ◌||◌, cond}
 use lib.Dec.{eqb}
 use Rattle.ids.specs.Keys.{lives_in}
-use Rattle.ids.proofs.Places.{missing_number}
-use Rattle.judge.specs.Answer.{Answer, accepted, refused, number_told, on_accepted}
+use Rattle.judge.specs.Answer.{number_told}
 use Rattle.judge.specs.Numbers.{«GONE», NEVER_ISSUED}
 use Rattle.judge.specs.Judge.{no_faults, float_faults, first_fault}
 use Rattle.judge.specs.declared.Faults.{Faults}
 use Rattle.waveform.specs.Waves.{wave_faults}
 use Rattle.values.specs.declared.value.ModulatorId.{ModulatorId}
-use Rattle.parameter.specs.FloatParameters as floats
+use Rattle.values.specs.Tweenables.{float_tweens}
+use Rattle.parameter.specs.Parameters.{target_faults}
 use Rattle.modulator.specs.Tweeners.{new_tweener, tweener_to_of, tweener_faults}
 use Rattle.modulator.specs.Lfos.{builder_faults, new_lfo, with_wave_of, with_phase_of}
 use Rattle.modulator.specs.declared.lfo.Lfo.{Lfo}
 use Rattle.modulator.specs.declared.tweener.Tweener.{Tweener}
-use Rattle.ids.specs.Tables.{where_is, refused_call, freed, read_found}
-use Rattle.modulator_table.specs.ModulatorTables.{modulator_table, slot_value, slot_of, parameter_by, add_tweener_of, add_lfo_of, on_modulator, changed_to, remove_of, on_tweener, on_lfo, set_tweener_of, set_parameter_of, set_waveform_of, set_phase_of, modulator_value_of}
+use Rattle.ids.specs.Tables.{where_is, refused_call, freed}
+use Rattle.modulator_table.specs.ModulatorTables.{modulator_table, slot_value, slot_of, parameter_by, add_tweener_of, add_lfo_of, on_modulator, changed_to, remove_of, on_tweener, on_lfo, set_tweener_of, set_parameter_of, set_waveform_of, set_phase_of, modulator_value_of, ModulatorDone}
 use Rattle.modulator_table.specs.declared.Modulator.{Modulator}
 use Rattle.modulator_table.specs.declared.Modulator.TheVariants.{OfTweener, OfLfo}
 use Rattle.modulator_table.specs.declared.Modulators.{Modulators}
-use Rattle.modulator_table.specs.declared.ModulatorDone.{ModulatorDone}
 use Rattle.modulator_table.specs.declared.Slot.{Slot}
 use Rattle.commands.specs.Answers.{value}
 use Rattle.commands.specs.ModulatorCommands.{done_as, run_modulator_of}
@@ -37,7 +36,7 @@ use Rattle.demands.specs.Conditions.{gone_in, never_in, is_tweener, is_lfo, othe
 use Rattle.demands.specs.Entries.{Sized}
 use Rattle.demands.specs.Order.{order, holds, first_in}
 use Rattle.demands.proofs.lemmas.Asked.{judged_number, id_given}
-use Rattle.demands.proofs.lemmas.Lookups.{number_by_id, by_living, entry_case, add_number}
+use Rattle.demands.proofs.lemmas.Lookups.{number_by_id, entry_number, read_number, add_number}
 
 module _ (st : Station) where
   abbrev at : Modulators
@@ -48,31 +47,16 @@ module _ (st : Station) where
   set_number i n m = judged_number (λ (r : ModulatorDone). r.refused) (changed_to at i m) (refused_call modulator_table at n) n refl refl
 
   module _ (w : Sized at.keys at.slots) (id : ModulatorId) where
-    -- the number of the id, where no modulator lives under it
-    abbrev missing : ℕ
-    missing = missing_number at.keys id.slot id.generation
-
     -- the number by the conditions of the id, or else n
     abbrev by_modulator_id : ℕ → ℕ
     by_modulator_id n = number_by_id at.keys id.slot id.generation n
 
-    -- the id names no modulator, and decides whatever comes behind it; or it names one, and does not
-    modulator_case :
-        {P : Type 0} → (where_is modulator_table at id ≡ refused missing → ((n : ℕ) → by_modulator_id n ≡ missing) → P)
-        → (lives_in at.keys id.slot id.generation ≡ true → where_is modulator_table at id ≡ accepted id.slot → (s : Slot) → Holds at.slots id.slot s → ((n : ℕ) → by_modulator_id n ≡ n) → P) → P
-    modulator_case n h = entry_case at.keys at.slots w id.slot id.generation n (λ l e s k. h l e s k (by_living at.keys id.slot id.generation l))
-
-    remove_number : number_told (done_as (on_modulator at (where_is modulator_table at id) (λ i m. freed modulator_table at i id.generation))).answer ≡ by_modulator_id 0
-    remove_number =
-        modulator_case
-        (λ e m. ap (λ (w : Answer ℕ). number_told (done_as (on_modulator at w (λ i m. freed modulator_table at i id.generation))).answer) e ∙ told_number missing ∙ sym (m 0))
-        (λ l e s k m. rw (e, m 0, holds_read (refused_call modulator_table at NEVER_ISSUED) (λ (s : Slot). freed modulator_table at id.slot id.generation) at.slots id.slot s k))
-
-    value_number : number_told (on_accepted value (read_found modulator_table at (where_is modulator_table at id) slot_value)) ≡ by_modulator_id 0
-    value_number =
-        modulator_case
-        (λ e m. ap (λ (w : Answer ℕ). number_told (on_accepted value (read_found modulator_table at w slot_value))) e ∙ sym (m 0))
-        (λ l e s k m. rw (e, m 0, holds_read (refused NEVER_ISSUED) (λ (s : Slot). accepted (slot_value s)) at.slots id.slot s k))
+    -- a call that changes a modulator is judged by its id, and behind it by the number n
+    by_id : (f : ℕ → Modulator → ModulatorDone) (n : ℕ) → (lives_in at.keys id.slot id.generation ≡ true → (s : Slot) → Holds at.slots id.slot s → (f id.slot s.modulator).refused ≡ n)
+        → number_told (done_as (on_modulator at (where_is modulator_table at id) f)).answer ≡ by_modulator_id n
+    by_id f n h =
+        entry_number at.keys at.slots w id.slot id.generation (λ (r : ModulatorDone). number_told (done_as r).answer) (refused_call modulator_table at) told_number
+        (λ i s. f i s.modulator) n (λ l s k. told_number (f id.slot s.modulator).refused ∙ h l s k)
 
     -- the other kind is asked where the id lives
     kind_given : (t : Modulator → Bool) (f : Faults) → by_modulator_id (cond (other_kind t st id) NEVER_ISSUED (first_fault f)) ≡ first_in order (holds (by_kind t st id f))
@@ -93,13 +77,8 @@ module _ (st : Station) where
         (t : Modulator → Bool) (n : ℕ) (f : ℕ → Modulator → ModulatorDone) → ((m : Modulator) → (f id.slot m).refused ≡ cond (not (t m)) NEVER_ISSUED n)
         → number_told (done_as (on_modulator at (where_is modulator_table at id) f)).answer ≡ by_modulator_id (cond (other_kind t st id) NEVER_ISSUED n)
     on_number t n f h =
-        modulator_case
-        (λ e m. ap (λ (w : Answer ℕ). number_told (done_as (on_modulator at w f)).answer) e ∙ told_number missing ∙ sym (m (cond (other_kind t st id) NEVER_ISSUED n)))
-        (λ l e s k m.
-        ap (λ (w : Answer ℕ). number_told (done_as (on_modulator at w f)).answer) e
-        ∙ ap (λ (r : ModulatorDone). number_told (done_as r).answer) (holds_read (refused_call modulator_table at NEVER_ISSUED) (λ (s : Slot). f id.slot s.modulator) at.slots id.slot s k)
-        ∙ told_number (f id.slot s.modulator).refused ∙ h s.modulator
-        ∙ rw (l, holds_read false (λ (s : Slot). t s.modulator) at.slots id.slot s k) refl)
+        by_id f (cond (other_kind t st id) NEVER_ISSUED n)
+        (λ l s k. h s.modulator ∙ rw (l, holds_read false (λ (s : Slot). t s.modulator) at.slots id.slot s k) refl)
 
     tweener_number : (n : ℕ) (to : Tweener → Modulator) (m : Modulator) → (on_tweener at m (λ old. cond (eqb n 0) (changed_to at id.slot (to old)) (refused_call modulator_table at n))).refused ≡ cond (not (is_tweener m)) NEVER_ISSUED n
     tweener_number n to (OfTweener old) = set_number id.slot n (to old)
@@ -115,17 +94,17 @@ pub modulator_number :
 unfolding run_modulator_of add_tweener_of add_lfo_of remove_of set_tweener_of set_parameter_of set_waveform_of set_phase_of modulator_value_of first_fault
 modulator_number st w (command.AddTweener x) = add_number modulator_table st.modulators (float_faults x) (slot_of (OfTweener (new_tweener x))) _
 modulator_number st w (command.AddLfo b) = add_number modulator_table st.modulators (builder_faults b) (slot_of (OfLfo (new_lfo b))) _
-modulator_number st w (command.Remove id) = remove_number st w id ∙ sym (id_given _ _ no_faults)
+modulator_number st w (command.Remove id) = by_id st w id (λ i m. freed modulator_table st.modulators i id.generation) 0 (λ l s k. refl) ∙ sym (id_given _ _ no_faults)
 modulator_number st w (command.SetTweener id x y) =
     on_number st w id is_tweener (first_fault (tweener_faults x y)) _ (tweener_number st w id (first_fault (tweener_faults x y)) (λ old. OfTweener (tweener_to_of x y old)))
     ∙ kind_given st w id is_tweener (tweener_faults x y)
 modulator_number st w (command.SetParameter id p v y) =
-    on_number st w id is_lfo (first_fault (floats.target_faults v y)) _ (lfo_number st w id (first_fault (floats.target_faults v y)) (λ old. OfLfo (parameter_by old p v y)))
-    ∙ kind_given st w id is_lfo (floats.target_faults v y)
+    on_number st w id is_lfo (first_fault (target_faults float_tweens v y)) _ (lfo_number st w id (first_fault (target_faults float_tweens v y)) (λ old. OfLfo (parameter_by old p v y)))
+    ∙ kind_given st w id is_lfo (target_faults float_tweens v y)
 modulator_number st w (command.SetWaveform id y) =
     on_number st w id is_lfo (first_fault (wave_faults y)) _ (lfo_number st w id (first_fault (wave_faults y)) (λ old. OfLfo (with_wave_of y old)))
     ∙ kind_given st w id is_lfo (wave_faults y)
 modulator_number st w (command.SetPhase id x) =
     on_number st w id is_lfo (first_fault (float_faults x)) _ (lfo_number st w id (first_fault (float_faults x)) (λ old. OfLfo (with_phase_of x old)))
     ∙ kind_given st w id is_lfo (float_faults x)
-modulator_number st w (command.Value id) = value_number st w id ∙ sym (id_given _ _ no_faults)
+modulator_number st w (command.Value id) = read_number st.modulators.keys st.modulators.slots w id.slot id.generation slot_value value ∙ sym (id_given _ _ no_faults)

@@ -112,14 +112,14 @@ unfolding scaled
 at_start_lem = record { part = 0; parts = (refl, refl); short = lit< tt; room = omega arith; place = refl }
 
 pub start_goes : (st : Station) (id : ClockId) → Fresh st id → Going (started st id) id 0
-start_goes st id f = go (command_makes st id f.clock (names_of st.clocks id f.clock f.lives) (command.Start id) (λ e. let z : ◌≡◌ {A = ℕ} 0 1 = cc in omega arith))
+start_goes st id f = go (command_makes st id f.clock (names_of st.clocks id f.clock f.lives) (command.Start id) (λ e. cc))
   where
     by : (x : ClockCommand) (d : Clock) → x ≡ command.Start id → Makes id f.clock x d → (d.ticking ≡ true) × (d.state ≡ f.clock.state)
     by x d e (leaves y n) = absurd (n (rw e refl))
     by x d e starts = (refl, refl)
-    by x d e stops = let z : ◌≡◌ {A = ℕ} 0 1 = cc in absurd (omega arith)
-    by x d e resets = let z : ◌≡◌ {A = ℕ} 0 1 = cc in absurd (omega arith)
-    by x d e (speeds v w p) = let z : ◌≡◌ {A = ℕ} 0 1 = cc in absurd (omega arith)
+    by x d e stops = absurd (cc)
+    by x d e resets = absurd (cc)
+    by x d e (speeds v w p) = absurd (cc)
 
     go : Made (run_clock_of st.clocks (command.Start id)).table id f.clock (command.Start id) → Going (started st id) id 0
     go m =

@@ -1,4 +1,4 @@
--- An id by which a call looks for an entry is refused by its own number, or lives and has one, where no key is without
+-- A call by an id is refused by the id's own number, or acts on the entry that lives under it, where no key is without
 -- an entry; and a table has room, or every slot is occupied or retired. RULES, gone, never-issued and no-room. Assumes
 -- nothing.
 use Prim.Native.Nat.{ℕ, zero, suc, ◌+◌, ◌≤◌, ◌<◌}
@@ -13,7 +13,7 @@ use lib.Dec.{ltb, eqb}
 use borrow.Author.Tests.{eqb-true, le-leb, lt-leb, le-ltb, lt-ltb, ne_eqb}
 use Rattle.ids.specs.Keys.{Place, place, room_at, free_of, lives_in, generation_at, was_given, find_of}
 use Rattle.ids.specs.Lists.{read_at}
-use Rattle.ids.specs.Tables.{Table, Added, refused_add, placed_in, added_in, added_to}
+use Rattle.ids.specs.Tables.{Table, Added, on_entry, refused_add, placed_in, added_in, added_to}
 use Rattle.ids.specs.declared.Key.{Key}
 use Rattle.judge.specs.Answer.{Answer, accepted, refused, is_refused, number_told, on_accepted}
 use Rattle.judge.specs.Judge.{Conditions, of_add, number_of}
@@ -21,7 +21,7 @@ use Rattle.judge.specs.Numbers.{«GONE», NEVER_ISSUED}
 use Rattle.judge.specs.declared.Faults.{Faults}
 use Rattle.judge.proofs.Judged.{nothing_wrong}
 use Rattle.ids.proofs.Places.{read_past, lives_inside, missing_number, find_living, find_missing}
-use Rattle.laws.proofs.lemmas.Entries.{Holds}
+use Rattle.laws.proofs.lemmas.Entries.{Holds, holds_read}
 use Rattle.demands.specs.Conditions.{ungiven, gone_in, never_in, every_taken}
 use Rattle.demands.specs.Entries.{Sized}
 use Rattle.demands.specs.Order.{order, holds, first_in}
@@ -67,19 +67,28 @@ module _ (ks : List Key) (i g : ℕ) where
   pub by_living : lives_in ks i g ≡ true → (n : ℕ) → number_by_id n ≡ n
   by_living l n = rw l
 
-module _ {A : Type 0} (ks : List Key) (es : List A) (w : Sized ks es) (i g : ℕ) {P : Type 0} where
-  -- the lookup refuses by the id's own number; or the id lives, and its slot is found
-  pub entry_case :
-      (find_of ks i g ≡ refused (missing_number ks i g) → ((n : ℕ) → number_by_id ks i g n ≡ missing_number ks i g) → P)
-      → (lives_in ks i g ≡ true → find_of ks i g ≡ accepted i → (x : A) → Holds es i x → P) → P
-  entry_case n h = go (lives_in ks i g) refl
-    where
-      go : (b : Bool) → lives_in ks i g ≡ b → P
-      go true l =
-          let k : i < length ks = lives_inside ks i g l in
-          let e = inside_holds es i (omega (arith, k, w.filled)) in
-          h l (find_living ks i g l) e.0 e.1
-      go false l = n (find_missing ks i g l) (by_missing ks i g w.most l)
+-- the number of a call by an id: the id's own where nothing lives under it, else that of what the call makes of the
+-- entry
+module _ {E : Type 0} (ks : List Key) (es : List E) (w : Sized ks es) (i g : ℕ) where
+  module _ {R : Type 0} (number : R → ℕ) (none : ℕ → R) (told : (m : ℕ) → number (none m) ≡ m) where
+    pub entry_number :
+        (f : ℕ → E → R) (n : ℕ) → (lives_in ks i g ≡ true → (x : E) → Holds es i x → number (f i x) ≡ n)
+        → number (on_entry none es (find_of ks i g) f) ≡ number_by_id ks i g n
+    entry_number f n h = go (lives_in ks i g) refl
+      where
+        on : Answer ℕ → ℕ
+        on a = number (on_entry none es a f)
+
+        go : (b : Bool) → lives_in ks i g ≡ b → on (find_of ks i g) ≡ number_by_id ks i g n
+        go true l =
+            let k : i < length ks = lives_inside ks i g l in
+            let e = inside_holds es i (omega (arith, k, w.filled)) in
+            ap on (find_living ks i g l) ∙ ap number (holds_read (none NEVER_ISSUED) (f i) es i e.0 e.1) ∙ h l e.0 e.1 ∙ sym (by_living ks i g l n)
+        go false l = ap on (find_missing ks i g l) ∙ told (missing_number ks i g) ∙ sym (by_missing ks i g w.most l n)
+
+  -- a read is refused by the id alone
+  pub read_number : {A B : Type 0} (f : E → A) (k : A → B) → number_told (on_accepted k (on_entry refused es (find_of ks i g) (λ i x. accepted (f x)))) ≡ number_by_id ks i g 0
+  read_number {A} f k = entry_number (λ (a : Answer A). number_told (on_accepted k a)) refused (λ m. refl) (λ i x. accepted (f x)) 0 (λ l x h. refl)
 
 -- ---- room
 

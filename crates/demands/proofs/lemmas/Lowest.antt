@@ -8,6 +8,7 @@ use lib.IntN.{pos}
 use lib.Dec.{eqb}
 use lib.Ieee.{Float, fin, lt, le}
 use borrow.Author.Tests.{eqb-true}
+use Rattle.std.specs.Prelude.{Option}
 use Rattle.doubles.specs.Doubles.{one_f}
 use Rattle.ids.specs.Lists.{read_at}
 use Rattle.ids.specs.declared.Key.{Key}
@@ -17,15 +18,14 @@ use Rattle.judge.specs.Answer.{Answer, accepted, refused, is_refused}
 use Rattle.judge.specs.Numbers.{TOO_FAR, TICKS_FULL}
 use Rattle.judge.specs.Judge.{dt_faults, number_of, first_fault}
 use Rattle.info.specs.declared.info.Info.{Info}
-use Rattle.parameter.specs.declared.speed.SpeedParameter.{SpeedParameter}
+use Rattle.values.specs.declared.clock_speed.ClockSpeed.{ClockSpeed}
+use Rattle.parameter.specs.declared.Parameter.{Parameter}
 use Rattle.clock.specs.OneClock.{position_of, fresh_of, advance_of, sum_of, sped_of, no_report, by_turn, tick_of, update_clock_of}
 use Rattle.clock.specs.declared.Clock.{Clock}
-use Rattle.clock.specs.declared.Reported.{Reported}
 use Rattle.modulator_table.specs.declared.Modulators.{Modulators}
-use Rattle.station.specs.Frames.{Try, went, stopped, seeing, watching, turned, modulators_turned, placed, then, clock_turn, clock_turns, closed, clocks_turned, no_reports, undone_of, framed, frame_of}
+use Rattle.station.specs.Frames.{Try, went, stopped, seeing, watching, turned, modulators_turned, placed, then, clock_turn, clock_turns, closed, clocks_turned, no_reports, Framed, undone_of, framed, frame_of}
 use Rattle.station.specs.Stations.{info_in}
 use Rattle.station.specs.Turns.{turn_clock}
-use Rattle.station.specs.declared.frame.Framed.{Framed}
 use Rattle.station.specs.declared.Station.{Station}
 use Rattle.demands.specs.Conditions.{sped_in, too_far_in, ticks_full_in, slot_in, onward, lowest_in, in_frame}
 
@@ -34,7 +34,7 @@ use Rattle.demands.specs.Conditions.{sped_in, too_far_in, ticks_full_in, slot_in
 -- it goes, with neither in the way; or it stops, by TOO_FAR where the advance is so, whatever the ticks, and else by
 -- TICKS_FULL
 data Turn : Try → Bool → Bool → Type 0 where
-  goes : (cs : List Clock) (rs : List Reported) → Turn (went cs rs) false false
+  goes : (cs : List Clock) (rs : List (Option ℕ)) → Turn (went cs rs) false false
   far : (b : Bool) → Turn (stopped TOO_FAR) true b
   full : Turn (stopped TICKS_FULL) false true
 
@@ -48,12 +48,12 @@ read_three P p q r f g h n s (x ∷ l) zero = s x
 read_three P p q r f g h n s (x ∷ l) (suc i) = read_three P p q r f g h n s l i
 
 module _ (info : Info) (dt : Float) (keys : List Key) where
-  module _ (i : ℕ) (cs : List Clock) (rs : List Reported) where
+  module _ (i : ℕ) (cs : List Clock) (rs : List (Option ℕ)) where
     clock_turn_lem : (c : Clock) → Turn (placed i cs rs (turn_clock (watching info cs) c dt)) (too_far_in (watching info cs) c dt) (ticks_full_in (watching info cs) c dt)
     unfolding turn_clock update_clock_of tick_of number_of
     clock_turn_lem c = ticks c.ticking
       where
-        speed : SpeedParameter
+        speed : Parameter ClockSpeed
         speed = sped_in (watching info cs) c dt
 
         took : Answer Position
@@ -88,16 +88,16 @@ module _ (info : Info) (dt : Float) (keys : List Key) where
   number_by (went cs rs) = 0
   number_by (stopped n) = n
 
-  abbrev far_or_full : ℕ → ℕ → List Clock → List Reported → ℕ
+  abbrev far_or_full : ℕ → ℕ → List Clock → List (Option ℕ) → ℕ
   far_or_full n i cs rs = cond (lowest_in too_far_in info dt keys n i cs rs) TOO_FAR (cond (lowest_in ticks_full_in info dt keys n i cs rs) TICKS_FULL 0)
 
-  turns_number : (n i : ℕ) (cs : List Clock) (rs : List Reported) → number_by (clock_turns info dt keys n i cs rs) ≡ far_or_full n i cs rs
+  turns_number : (n i : ℕ) (cs : List Clock) (rs : List (Option ℕ)) → number_by (clock_turns info dt keys n i cs rs) ≡ far_or_full n i cs rs
   unfolding clock_turns lowest_in
   turns_number zero i cs rs = refl
   turns_number (suc n) i cs rs = go (clock_turn info dt keys i cs rs) _ _ (slot_turn i cs rs) (turns_number n (i + 1))
     where
       go :
-          (t : Try) (a b : Bool) → Turn t a b → ((ds : List Clock) (qs : List Reported) → number_by (clock_turns info dt keys n (i + 1) ds qs) ≡ far_or_full n (i + 1) ds qs)
+          (t : Try) (a b : Bool) → Turn t a b → ((ds : List Clock) (qs : List (Option ℕ)) → number_by (clock_turns info dt keys n (i + 1) ds qs) ≡ far_or_full n (i + 1) ds qs)
           → number_by (then (clock_turns info dt keys n (i + 1)) t)
           ≡ cond (a || onward (lowest_in too_far_in info dt keys n (i + 1)) t) TOO_FAR (cond (b || onward (lowest_in ticks_full_in info dt keys n (i + 1)) t) TICKS_FULL 0)
       go t a b (goes ds qs) ih = ih ds qs

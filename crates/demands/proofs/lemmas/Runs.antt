@@ -21,8 +21,10 @@ use Rattle.laws.specs.Calls.{Call, clock, modulator, frame, after}
 use Rattle.laws.specs.SoundStation.{All}
 use Rattle.laws.proofs.lemmas.Entries.{names_read}
 use borrow.Author.Tests.{not-true}
+use Rattle.std.specs.List.{position_or_len}
+use Rattle.std.proofs.lemmas.List.{length-map}
 use Rattle.times.proofs.time.Places.{Fraction}
-use Rattle.demands.specs.Events.{Event, call, update, after_events, clock_in, moves, advance_by, advance_in, advances_of, total, sums_from, in_order, tests_of, first_pass, first_reach, later, Place, at}
+use Rattle.demands.specs.Events.{Event, call, update, after_events, clock_in, moves, advance_by, advance_in, advances_of, total, sums_from, in_order, tests_of, first_pass, first_reach}
 use Rattle.demands.specs.Served.{Kept, Grid, awaited}
 use Rattle.demands.proofs.lemmas.Due.{due}
 use Rattle.demands.proofs.lemmas.Going.{Going, call_goes}
@@ -140,5 +142,8 @@ module _ (id : ClockId) (tick : ℕ) (g : Float) (F : Fraction g) where
 -- the first that passes is the first that reaches
 pub first_same : (w : ℕ) (ns : List ℕ) → first_pass (map (leb w) ns) ≡ first_reach w ns
 unfolding first_pass first_reach
-first_same w [] = refl
-first_same w (n ∷ ns) = ap (λ (q : Place). cond (leb w n) (at 0) (later q)) (first_same w ns)
+first_same w ns = rw (passing ns, length-map ns (leb w))
+  where
+    passing : (ns : List ℕ) → position_or_len (λ b. b) (map (leb w) ns) ≡ position_or_len (leb w) ns
+    passing [] = refl
+    passing (n ∷ ns) = ap (λ (k : ℕ). cond (not (leb w n)) (1 + k) 0) (passing ns)

@@ -4,7 +4,7 @@ use Prim.Native.Nat.{ℕ, ◌+◌, ◌-◌, ◌*◌, ◌/◌, ◌%◌, ◌^◌, 
 use native.Mathlib.Nat.{add-mul, mul_assoc}
 use native.Mathlib.Omega.{arith}
 use mathlib.Core.Path.{◌≡◌, refl, sym, ap, ◌∙◌, subst}
-use mathlib.Core.Bool.{Bool, true, false, ◌||◌, cond}
+use mathlib.Core.Bool.{Bool, true, false, ◌||◌}
 use lib.IntN.{pos}
 use lib.Ieee.{Float, fin, binary64, add, lt, le}
 use lib.Ieee.Fits.{add-fits}
@@ -14,13 +14,14 @@ use Rattle.ticks.specs.declared.Position.{Position}
 use Rattle.times.specs.Times.{place_at}
 use Rattle.judge.specs.Answer.{Answer, accepted, refused}
 use Rattle.judge.specs.Judge.{number_of}
-use Rattle.parameter.specs.SpeedParameters.{update_of}
-use Rattle.parameter.specs.declared.speed.SpeedParameter.{SpeedParameter}
-use Rattle.info.specs.ParametersIn.{speed_due_of, speed_source_of}
-use Rattle.clock.specs.OneClock.{position_of, fresh_of, advance_of, sum_of, no_report, moved_to, by_turn, tick_of, update_clock_of}
+use Rattle.values.specs.Speeds.{speed_tweens}
+use Rattle.values.specs.declared.clock_speed.ClockSpeed.{ClockSpeed}
+use Rattle.parameter.specs.Parameters.{update_of}
+use Rattle.parameter.specs.declared.Parameter.{Parameter}
+use Rattle.info.specs.ParametersIn.{parameter_due_of, source_of}
+use Rattle.clock.specs.OneClock.{Ticked, position_of, fresh_of, advance_of, sum_of, no_report, moved_to, by_turn, tick_of, update_clock_of}
 use Rattle.clock.specs.declared.Clock.{Clock}
 use Rattle.clock.specs.declared.ClockState.TheVariants.{Started}
-use Rattle.clock.specs.declared.Ticked.{Ticked}
 use Rattle.station.specs.Turns.{turn_clock}
 use Rattle.laws.proofs.lemmas.OneTurn.{Turned}
 use Rattle.demands.proofs.lemmas.Exact.{Parts, parts_scaled, OnGrid, add_parts, took}
@@ -76,8 +77,8 @@ pub record Ticks (dt : Float) (c d : Clock) : Type 0 where
 
 module _ (dt : Float) (c d : Clock) (t : Turned dt c d) where
   -- the speed first
-  abbrev speed : SpeedParameter
-  speed = (update_of c.speed dt (speed_due_of t.seen c.speed) (speed_source_of t.seen c.speed)).parameter
+  abbrev speed : Parameter ClockSpeed
+  speed = (update_of speed_tweens c.speed dt (parameter_due_of t.seen c.speed) (source_of t.seen c.speed)).parameter
 
   pub ticks : c.ticking ≡ true → Ticks dt c d
   unfolding turn_clock update_clock_of tick_of number_of
@@ -87,7 +88,7 @@ module _ (dt : Float) (c d : Clock) (t : Turned dt c d) where
       told = fresh_of c.state || le one_f (sum_of speed c.state dt)
 
       by : (w : Answer Position) → taken_of (position_of c.state).ticks (sum_of speed c.state dt) ≡ w → by_turn speed told false w ≡ accepted (record { clock = d; report = t.report }) → Ticks dt c d
-      by (refused n) e i = let z : ◌≡◌ {A = ℕ} 0 1 = cc in absurd (omega arith)
+      by (refused n) e i = absurd (cc)
       by (accepted to) e i =
           let r : moved_to speed told to ≡ record { clock = d; report = t.report } = cc in
           subst (Ticks dt c) (ap (λ (q : Ticked). q.clock) r) (record { ticking = refl; to = to; state = refl; taken = e })
@@ -95,7 +96,7 @@ module _ (dt : Float) (c d : Clock) (t : Turned dt c d) where
       far :
           (b : Bool) → by_turn speed told b (taken_of (position_of c.state).ticks (sum_of speed c.state dt)) ≡ accepted (record { clock = d; report = t.report })
           → Ticks dt c d
-      far true i = let z : ◌≡◌ {A = ℕ} 0 1 = cc in absurd (omega arith)
+      far true i = absurd (cc)
       far false i = by (taken_of (position_of c.state).ticks (sum_of speed c.state dt)) refl i
 
   -- a clock that does not tick has no more of an update than its speed's: RULES, clock-update

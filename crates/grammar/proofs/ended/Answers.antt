@@ -4,4 +4,4 @@ use Rattle.grammar.proofs.ended.Goals as goal
 
 pub returns : goal.returns
 returns c =
-    rw c.next_word-w.ensures (blanks_left c.args.line.now c.args.at)
+    rw c.next_word-w.ensures (blanks_left c.args.words.now.line.now c.args.words.now.at)

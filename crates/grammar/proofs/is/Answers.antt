@@ -1,7 +1,7 @@
--- `is` is proved: `same` answers whether the word and the name are one list, and so whether they have the same bytes.
--- Assumes nothing.
-use Rattle.grammar.proofs.Places.{same_told}
+-- `is` is proved: `==` compares the bytes of the word with those of the name. Assumes nothing.
+use mathlib.Core.Path.{◌∙◌}
+use Rattle.text.proofs.Bytes.{same_pointwise}
 use Rattle.grammar.proofs.is.Goals as goal
 
 pub returns : goal.returns
-returns c = rw (← c.part.ensures) (same_told c.same.result _ _ c.same.ensures)
+returns c = c.eq.ensures ∙ same_pointwise c.args.word.now c.args.name.now

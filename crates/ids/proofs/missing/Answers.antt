@@ -1,12 +1,7 @@
--- `ids::missing` meets its contract: its two tests are the definition's. Assumes nothing.
-use Rattle.ids.proofs.Searches.{given_zero, given_above, given_once}
+-- The refusal of an id that does not live is found by the search. That of generation 0 is answered here, so that a
+-- must-fail edit can name its goal.
+use Rattle.std.proofs.Common.{rules}
 use Rattle.ids.proofs.missing.Goals as goal
 
 pub returns-then-generation-eq0 : goal.returns-then-generation-eq0
-returns-then-generation-eq0 c = given_zero _ _ c.if-generation-eq0.true
-
-pub returns-then-generation-last : goal.returns-then-generation-last
-returns-then-generation-last c = given_once _ _ c.if-generation-eq0.false c.if-generation-last.true
-
-pub returns : goal.returns
-returns c = given_above _ _ c.if-generation-last.false
+returns-then-generation-eq0 c = search rules

@@ -4,4 +4,4 @@ use Rattle.judge.proofs.dt_faults.Goals as goal
 
 pub returns : goal.returns
 unfolding of_bits
-returns c = rw (c.no_faults-f.ensures, c.is_finite.ensures, c.sign_bit.ensures)
+returns c = rw (c.none-f.ensures, c.is_finite.ensures, c.sign_bit.ensures)

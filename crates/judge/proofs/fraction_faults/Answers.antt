@@ -4,4 +4,4 @@ use Rattle.judge.proofs.fraction_faults.Goals as goal
 
 pub returns : goal.returns
 unfolding of_bits
-returns c = rw (c.no_faults-f.ensures, c.sign_bit.ensures)
+returns c = rw (c.none-f.ensures, c.sign_bit.ensures)

@@ -2,4 +2,4 @@
 use Rattle.judge.proofs.span_faults.Goals as goal
 
 pub returns : goal.returns
-returns c = rw c.no_faults-f.ensures
+returns c = rw c.none-f.ensures

@@ -11,9 +11,9 @@ use borrow.Author.Tests.{eqb-true}
 use Rattle.doubles.specs.Doubles.{zero_f}
 use Rattle.doubles.specs.Intervals.{Between}
 use Rattle.doubles.proofs.Unit.{order→le, le_of_not_lt}
-use Rattle.judge.specs.Judge.{Conditions, of_add, no_faults, both_faults, dt_faults, bad_dt, number_of, first_fault}
+use Rattle.judge.specs.Judge.{no_faults, both_faults, dt_faults, bad_dt, first_fault}
 use Rattle.judge.specs.declared.Faults.{Faults}
-use Rattle.judge.proofs.Judged.{none_set, nothing_wrong}
+use Rattle.judge.proofs.Judged.{none_set}
 use Rattle.values.proofs.clock_speed.Rates.{neither}
 
 none : (f : Faults) → f.dt ≡ false → f.float ≡ false → f.speed ≡ false → f.ease ≡ false → f.map ≡ false → f.time ≡ false → f ≡ no_faults
@@ -55,12 +55,4 @@ judged_case P f x y h k = go (eqb (first_fault f) 0) (eqb-true (first_fault f) 0
   where
     go : (b : Bool) → (b ≡ true → first_fault f ≡ 0) → P (cond b x y)
     go true e = h (none_set f (e refl))
-    go false e = k
-
--- the same of an add, which is judged by whether there is room too
-pub add_case : {A : Type 0} (P : A → Type 0) (f : Faults) (r : Bool) (x y : A) → (f ≡ no_faults → P x) → P y → P (cond (eqb (number_of (of_add f r)) 0) x y)
-add_case P f r x y h k = go (eqb (number_of (of_add f r)) 0) (eqb-true (number_of (of_add f r)) 0)
-  where
-    go : (b : Bool) → (b ≡ true → number_of (of_add f r) ≡ 0) → P (cond b x y)
-    go true e = h (ap (λ (c : Conditions). c.faults) (nothing_wrong (of_add f r) (e refl)))
     go false e = k

@@ -1,31 +1,28 @@
 -- What each call does to each of the two tables: it leaves it, changes, removes or adds one entry, or gives every entry
 -- its turn. The laws on calls are read off this. Assumes nothing.
-use Prim.Native.Nat.{ℕ, zero, suc}
-use native.Mathlib.Omega.{arith}
-use mathlib.Core.Path.{◌≡◌, refl}
-use mathlib.Core.Bool.{Bool, true, false, cond}
-use mathlib.Core.List.{List, [], ◌∷◌}
+use Prim.Native.Nat.{ℕ}
+use mathlib.Core.Path.{◌≡◌}
+use mathlib.Core.Bool.{true, false, cond}
+use mathlib.Core.List.{List}
 use lib.ListN.{set}
 use lib.Dec.{eqb}
 use lib.Ieee.{Float}
-use Rattle.ids.specs.Keys.{Place, place, room_at, free_of, lives_in, taken_at, left_at}
-use Rattle.ids.specs.Lists.{read_at}
-use Rattle.ids.specs.Tables.{placed_in, changed, freed, on_found, refused_add, refused_call, where_is}
+use Rattle.ids.specs.Keys.{room_at, free_of, lives_in, taken_at, left_at}
+use Rattle.ids.specs.Tables.{changed, freed, on_found, refused_call, where_is}
 use Rattle.ids.specs.declared.Key.{Key}
-use Rattle.ids.proofs.Places.{found_case}
-use Rattle.judge.specs.Answer.{Answer, accepted, refused, is_refused, on_accepted}
-use Rattle.judge.specs.Judge.{of_add, number_of, float_faults, dt_faults, first_fault}
+use Rattle.judge.specs.Answer.{Answer, accepted, refused, on_accepted}
+use Rattle.judge.specs.Judge.{float_faults, first_fault}
 use Rattle.judge.specs.Numbers.{NEVER_ISSUED}
 use Rattle.judge.specs.declared.Faults.{Faults}
 use Rattle.times.specs.declared.time.ClockId.{ClockId}
-use Rattle.times.specs.declared.time.ClockTime.{ClockTime}
 use Rattle.values.specs.declared.clock_speed.ClockSpeed.{ClockSpeed}
-use Rattle.values.specs.Values.{speed_value_faults}
+use Rattle.values.specs.Speeds.{speed_tweens}
+use Rattle.values.specs.Tweenables.{float_tweens}
+use Rattle.values.specs.Values.{value_faults}
 use Rattle.waveform.specs.Waves.{wave_faults}
 use Rattle.values.specs.declared.value.ModulatorId.{ModulatorId}
-use Rattle.values.specs.declared.value.SpeedValue.{SpeedValue}
-use Rattle.parameter.specs.FloatParameters as floats
-use Rattle.parameter.specs.SpeedParameters as speeds
+use Rattle.values.specs.declared.value.Value.{Value}
+use Rattle.parameter.specs.Parameters.{target_faults, try_set_of}
 use Rattle.modulator.specs.Tweeners.{new_tweener, tweener_to_of, tweener_faults}
 use Rattle.modulator.specs.Lfos.{builder_faults, new_lfo, with_wave_of, with_phase_of}
 use Rattle.modulator.specs.declared.lfo.Lfo.{Lfo}
@@ -33,13 +30,13 @@ use Rattle.modulator.specs.declared.tweener.Tweener.{Tweener}
 use Rattle.clock.specs.OneClock.{new_clock, ticking_of, sped_of, reset_of}
 use Rattle.clock_table.specs.ClockTables as clocks
 use Rattle.clock.specs.declared.Clock.{Clock}
+use Rattle.clock_table.specs.ClockTables.{ClockDone}
 use Rattle.clock_table.specs.declared.Clocks.{Clocks}
-use Rattle.clock_table.specs.declared.ClockDone.{ClockDone}
 use Rattle.modulator_table.specs.ModulatorTables as modulators
+use Rattle.modulator_table.specs.ModulatorTables.{ModulatorDone}
 use Rattle.modulator_table.specs.declared.Modulator.{Modulator}
 use Rattle.modulator_table.specs.declared.Modulator.TheVariants.{OfTweener, OfLfo}
 use Rattle.modulator_table.specs.declared.Modulators.{Modulators}
-use Rattle.modulator_table.specs.declared.ModulatorDone.{ModulatorDone}
 use Rattle.modulator_table.specs.declared.Slot.{Slot}
 use Rattle.commands.specs.Answers as answers
 use Rattle.commands.specs.Answers.{Given, by_number, Left}
@@ -51,11 +48,10 @@ use Rattle.commands.specs.declared.clock_command.ClockCommand.{ClockCommand}
 use Rattle.commands.specs.declared.clock_command.ClockCommand.TheVariants as clockCommand
 use Rattle.commands.specs.declared.modulator_command.ModulatorCommand.{ModulatorCommand}
 use Rattle.commands.specs.declared.modulator_command.ModulatorCommand.TheVariants as modulatorCommand
-use Rattle.station.specs.Stations.{info_in}
-use Rattle.station.specs.Frames.{Try, went, stopped, seeing, turned, clock_turns, modulators_turned, clocks_turned, no_reports, closed, undone_of, framed, frame_of}
-use Rattle.station.specs.declared.frame.Framed.{Framed}
+use Rattle.station.specs.Frames.{Framed, frame_of}
 use Rattle.station.specs.declared.Station.{Station}
 use Rattle.laws.specs.Calls.{Call, clock, modulator, frame, after, Kind, of_clock, of_modulator, keys_of, entries_of, Told, refusal, named, done, told, Target, entry, none, all, clock_target, modulator_target, target_of}
+use Rattle.laws.proofs.lemmas.Cases.{cond_case, Alive, found_lem, added_lem, turned_slots, turned_to, frame_case}
 
 -- the answer gives no id of this kind
 abbrev Unnamed : Kind → Told → Type 0
@@ -69,25 +65,13 @@ pub data Deed {A : Type 0} (k : Kind) (ks : List Key) (es : List A) : Target →
   adds : (i g : ℕ) (x : A) → free_of 0 ks ≡ room_at i g → Deed k ks es none (named k i g) (set ks i (taken_at g)) (set es i x)
   turns : (fs : List A) → Deed k ks es all done ks fs
 
--- ---- a test, and an entry
-
-pub cond_case : {A : Type 0} (P : A → Type 0) (x y : A) → P x → P y → (b : Bool) → P (cond b x y)
-cond_case P x y p q true = p
-cond_case P x y p q false = q
-
-pub read_case : {A B : Type 0} (P : B → Type 0) (n : B) (f : A → B) → P n → ((x : A) → P (f x)) → (l : List A) (i : ℕ) → P (read_at n f l i)
-unfolding read_at
-read_case P n f p h [] i = p
-read_case P n f p h (x ∷ l) zero = h x
-read_case P n f p h (x ∷ l) (suc i) = read_case P n f p h l i
-
 -- ---- answers without an id
 
 unnamed_done : (k : Kind) → Unnamed k done
-unnamed_done k i g e = let z : ◌≡◌ {A = ℕ} 0 1 = cc in omega arith
+unnamed_done k i g e = cc
 
 unnamed_refusal : (k : Kind) (n : ℕ) → Unnamed k (refusal n)
-unnamed_refusal k n i g e = let z : ◌≡◌ {A = ℕ} 0 1 = cc in omega arith
+unnamed_refusal k n i g e = cc
 
 unnamed_number : (k : Kind) (n : ℕ) → Unnamed k (by_number n)
 unnamed_number k n = cond_case (Unnamed k) done (refusal n) (unnamed_done k) (unnamed_refusal k n) (eqb n 0)
@@ -97,41 +81,29 @@ unnamed_read : {A : Type 0} (k : Kind) (f : A → Given) → ((x : A) → Unname
 unnamed_read k f h (accepted x) = h x
 unnamed_read k f h (refused n) = unnamed_refusal k n
 
-unnamed_time : (k : Kind) (t : ClockTime) → Unnamed k (accepted (answers.time t))
-unnamed_time k t i g e = let z : ◌≡◌ {A = ℕ} 0 1 = cc in omega arith
-
-unnamed_flag : (k : Kind) (b : Bool) → Unnamed k (accepted (answers.flag b))
-unnamed_flag k b i g e = let z : ◌≡◌ {A = ℕ} 0 1 = cc in omega arith
-
-unnamed_speed : (k : Kind) (v : ClockSpeed) → Unnamed k (accepted (answers.speed v))
-unnamed_speed k v i g e = let z : ◌≡◌ {A = ℕ} 0 1 = cc in omega arith
-
-unnamed_value : (k : Kind) (x : Float) → Unnamed k (accepted (answers.value x))
-unnamed_value k x i g e = let z : ◌≡◌ {A = ℕ} 0 1 = cc in omega arith
-
 -- the answer of a call on one table gives no id of the other
 unnamed_modulator : (t : Clocks) (c : ClockCommand) → Unnamed of_modulator (run_clock_of t c).answer
 unfolding run_clock_of
-unnamed_modulator t (clockCommand.Add v) = unnamed_read of_modulator (λ id. answers.named of_clock id.slot id.generation) (λ id i g e. let z : ◌≡◌ {A = ℕ} 0 1 = cc in omega arith) (clocks.add_clock_of t v).answer
+unnamed_modulator t (clockCommand.Add v) = unnamed_read of_modulator (λ id. answers.named of_clock id.slot id.generation) (λ id i g e. cc) (clocks.add_clock_of t v).answer
 unnamed_modulator t (clockCommand.Remove id) = unnamed_number of_modulator (clocks.remove_of t id).refused
 unnamed_modulator t (clockCommand.Start id) = unnamed_number of_modulator (clocks.tick_on_of true t id).refused
 unnamed_modulator t (clockCommand.Stop id) = unnamed_number of_modulator (clocks.tick_on_of false t id).refused
 unnamed_modulator t (clockCommand.Reset id) = unnamed_number of_modulator (clocks.reset_clock_of t id).refused
 unnamed_modulator t (clockCommand.SetSpeed id v w) = unnamed_number of_modulator (clocks.set_speed_of t id v w).refused
-unnamed_modulator t (clockCommand.Time id) = unnamed_read of_modulator answers.time (unnamed_time of_modulator) (clocks.clock_time_of t id)
-unnamed_modulator t (clockCommand.Ticking id) = unnamed_read of_modulator answers.flag (unnamed_flag of_modulator) (clocks.clock_ticking_of t id)
-unnamed_modulator t (clockCommand.Speed id) = unnamed_read of_modulator answers.speed (unnamed_speed of_modulator) (clocks.clock_speed_of t id)
+unnamed_modulator t (clockCommand.Time id) = unnamed_read of_modulator answers.time (λ x i g e. cc) (clocks.clock_time_of t id)
+unnamed_modulator t (clockCommand.Ticking id) = unnamed_read of_modulator answers.flag (λ x i g e. cc) (clocks.clock_ticking_of t id)
+unnamed_modulator t (clockCommand.Speed id) = unnamed_read of_modulator answers.speed (λ x i g e. cc) (clocks.clock_speed_of t id)
 
 unnamed_clock : (t : Modulators) (c : ModulatorCommand) → Unnamed of_clock (run_modulator_of t c).answer
 unfolding run_modulator_of
-unnamed_clock t (modulatorCommand.AddTweener x) = unnamed_read of_clock (λ id. answers.named of_modulator id.slot id.generation) (λ id i g e. let z : ◌≡◌ {A = ℕ} 0 1 = cc in omega arith) (modulators.add_tweener_of t x).answer
-unnamed_clock t (modulatorCommand.AddLfo b) = unnamed_read of_clock (λ id. answers.named of_modulator id.slot id.generation) (λ id i g e. let z : ◌≡◌ {A = ℕ} 0 1 = cc in omega arith) (modulators.add_lfo_of t b).answer
+unnamed_clock t (modulatorCommand.AddTweener x) = unnamed_read of_clock (λ id. answers.named of_modulator id.slot id.generation) (λ id i g e. cc) (modulators.add_tweener_of t x).answer
+unnamed_clock t (modulatorCommand.AddLfo b) = unnamed_read of_clock (λ id. answers.named of_modulator id.slot id.generation) (λ id i g e. cc) (modulators.add_lfo_of t b).answer
 unnamed_clock t (modulatorCommand.Remove id) = unnamed_number of_clock (modulators.remove_of t id).refused
 unnamed_clock t (modulatorCommand.SetTweener id x w) = unnamed_number of_clock (modulators.set_tweener_of t id x w).refused
 unnamed_clock t (modulatorCommand.SetParameter id k v w) = unnamed_number of_clock (modulators.set_parameter_of t id k v w).refused
 unnamed_clock t (modulatorCommand.SetWaveform id w) = unnamed_number of_clock (modulators.set_waveform_of t id w).refused
 unnamed_clock t (modulatorCommand.SetPhase id x) = unnamed_number of_clock (modulators.set_phase_of t id x).refused
-unnamed_clock t (modulatorCommand.Value id) = unnamed_read of_clock answers.value (unnamed_value of_clock) (modulators.modulator_value_of t id)
+unnamed_clock t (modulatorCommand.Value id) = unnamed_read of_clock answers.value (λ x i g e. cc) (modulators.modulator_value_of t id)
 
 -- ---- calls on clocks
 
@@ -140,52 +112,40 @@ module _ (t : Clocks) where
   ClockDeed a r = Deed of_clock t.keys t.clocks a r.answer r.table.keys r.table.clocks
 
   clock_refused : (a : Target) (n : ℕ) → ClockDeed a (clockRuns.done_as (refused_call clocks.clock_table t n))
-  clock_refused a n =
-      cond_case (λ (r : Told). ClockDeed a (record { answer = r; table = t })) done (refusal n)
-      (leaves a done (unnamed_done of_clock)) (leaves a (refusal n) (unnamed_refusal of_clock n)) (eqb n 0)
+  clock_refused a n = leaves a (by_number n) (unnamed_number of_clock n)
 
   module _ (id : ClockId) where
     abbrev OnClock : ClockDone → Type 0
     OnClock r = ClockDeed (entry of_clock id.slot id.generation) (clockRuns.done_as r)
 
-    abbrev ClockAlive : Type 0
-    ClockAlive = lives_in t.keys id.slot id.generation ≡ true
-
-    on_clock : (f : ℕ → Clock → ClockDone) → ((c : Clock) → ClockAlive → OnClock (f id.slot c)) → OnClock (on_found clocks.clock_table t (where_is clocks.clock_table t id) f)
-    on_clock f h =
-        found_case t.keys id.slot id.generation (λ w. OnClock (on_found clocks.clock_table t w f)) (λ n z l. clock_refused _ n) (λ l.
-        read_case OnClock (refused_call clocks.clock_table t NEVER_ISSUED) (f id.slot) (clock_refused _ NEVER_ISSUED) (λ c. h c l) t.clocks id.slot)
+    on_clock : (f : ℕ → Clock → ClockDone) → (Alive clocks.clock_table t id → (c : Clock) → OnClock (f id.slot c)) → OnClock (on_found clocks.clock_table t (where_is clocks.clock_table t id) f)
+    on_clock f h = found_lem clocks.clock_table t id OnClock f (λ n z. clock_refused _ n) h
 
     -- changed where a number is 0, and refused by it elsewhere
-    clock_changed : (n : ℕ) (c : Clock) → ClockAlive → OnClock (cond (eqb n 0) (changed clocks.clock_table t id.slot c) (refused_call clocks.clock_table t n))
+    clock_changed : (n : ℕ) (c : Clock) → Alive clocks.clock_table t id → OnClock (cond (eqb n 0) (changed clocks.clock_table t id.slot c) (refused_call clocks.clock_table t n))
     clock_changed n c l =
         cond_case OnClock (changed clocks.clock_table t id.slot c) (refused_call clocks.clock_table t n)
         (changes id.slot id.generation c l) (clock_refused _ n) (eqb n 0)
 
-  clock_added : (v : SpeedValue) → ClockDeed none (clockRuns.added_as (clocks.add_clock_of t v))
+  clock_added : (v : Value ClockSpeed) → ClockDeed none (clockRuns.added_as (clocks.add_clock_of t v))
   unfolding clocks.add_clock_of
   clock_added v =
-      let n : ℕ = number_of (of_add (speed_value_faults v) (is_refused (free_of 0 t.keys))) in
-      cond_case (λ r. ClockDeed none (clockRuns.added_as r)) (placed_in clocks.clock_table t (new_clock v) (free_of 0 t.keys)) (refused_add clocks.clock_table t n)
-      (put (free_of 0 t.keys) refl) (leaves none (refusal n) (unnamed_refusal of_clock n)) (eqb n 0)
-    where
-      put : (w : Answer Place) → free_of 0 t.keys ≡ w → ClockDeed none (clockRuns.added_as (placed_in clocks.clock_table t (new_clock v) w))
-      put (refused m) e = leaves none (refusal m) (unnamed_refusal of_clock m)
-      put (accepted (place i g)) e = adds i g (new_clock v) e
+      added_lem clocks.clock_table t (value_faults speed_tweens v) (new_clock v) (λ r. ClockDeed none (clockRuns.added_as r))
+      (λ n z. leaves none (refusal n) (unnamed_refusal of_clock n)) (λ i g z e. adds i g (new_clock v) e)
 
   clock_deed : (c : ClockCommand) → ClockDeed (clock_target c) (run_clock_of t c)
   unfolding run_clock_of clocks.remove_of clocks.tick_on_of clocks.reset_clock_of clocks.set_speed_of
   clock_deed (clockCommand.Add v) = clock_added v
-  clock_deed (clockCommand.Remove id) = on_clock id (λ i c. freed clocks.clock_table t i id.generation) (λ c l. removes id.slot id.generation l)
-  clock_deed (clockCommand.Start id) = on_clock id (λ i c. changed clocks.clock_table t i (ticking_of true c)) (λ c l. changes id.slot id.generation (ticking_of true c) l)
-  clock_deed (clockCommand.Stop id) = on_clock id (λ i c. changed clocks.clock_table t i (ticking_of false c)) (λ c l. changes id.slot id.generation (ticking_of false c) l)
-  clock_deed (clockCommand.Reset id) = on_clock id (λ i c. changed clocks.clock_table t i (reset_of c)) (λ c l. changes id.slot id.generation (reset_of c) l)
-  clock_deed (clockCommand.SetSpeed id v w) = on_clock id (λ i c. clocks.by_set t i c (speeds.try_set_of c.speed v w)) (λ c l.
-      let s = speeds.try_set_of c.speed v w in
+  clock_deed (clockCommand.Remove id) = on_clock id (λ i c. freed clocks.clock_table t i id.generation) (λ l c. removes id.slot id.generation l)
+  clock_deed (clockCommand.Start id) = on_clock id (λ i c. changed clocks.clock_table t i (ticking_of true c)) (λ l c. changes id.slot id.generation (ticking_of true c) l)
+  clock_deed (clockCommand.Stop id) = on_clock id (λ i c. changed clocks.clock_table t i (ticking_of false c)) (λ l c. changes id.slot id.generation (ticking_of false c) l)
+  clock_deed (clockCommand.Reset id) = on_clock id (λ i c. changed clocks.clock_table t i (reset_of c)) (λ l c. changes id.slot id.generation (reset_of c) l)
+  clock_deed (clockCommand.SetSpeed id v w) = on_clock id (λ i c. clocks.by_set t i c (try_set_of speed_tweens c.speed v w)) (λ l c.
+      let s = try_set_of speed_tweens c.speed v w in
       clock_changed id s.refused (sped_of s.parameter c) l)
-  clock_deed (clockCommand.Time id) = leaves none _ (unnamed_read of_clock answers.time (unnamed_time of_clock) (clocks.clock_time_of t id))
-  clock_deed (clockCommand.Ticking id) = leaves none _ (unnamed_read of_clock answers.flag (unnamed_flag of_clock) (clocks.clock_ticking_of t id))
-  clock_deed (clockCommand.Speed id) = leaves none _ (unnamed_read of_clock answers.speed (unnamed_speed of_clock) (clocks.clock_speed_of t id))
+  clock_deed (clockCommand.Time id) = leaves none _ (unnamed_read of_clock answers.time (λ x i g e. cc) (clocks.clock_time_of t id))
+  clock_deed (clockCommand.Ticking id) = leaves none _ (unnamed_read of_clock answers.flag (λ x i g e. cc) (clocks.clock_ticking_of t id))
+  clock_deed (clockCommand.Speed id) = leaves none _ (unnamed_read of_clock answers.speed (λ x i g e. cc) (clocks.clock_speed_of t id))
 
 -- ---- calls on modulators
 
@@ -194,9 +154,7 @@ module _ (t : Modulators) where
   ModulatorDeed a r = Deed of_modulator t.keys t.slots a r.answer r.table.keys r.table.slots
 
   modulator_refused : (a : Target) (n : ℕ) → ModulatorDeed a (modulatorRuns.done_as (refused_call modulators.modulator_table t n))
-  modulator_refused a n =
-      cond_case (λ (r : Told). ModulatorDeed a (record { answer = r; table = t })) done (refusal n)
-      (leaves a done (unnamed_done of_modulator)) (leaves a (refusal n) (unnamed_refusal of_modulator n)) (eqb n 0)
+  modulator_refused a n = leaves a (by_number n) (unnamed_number of_modulator n)
 
   -- the modulator changed where a number is 0, and refused by it elsewhere
   abbrev set_or : ℕ → Modulator → ℕ → ModulatorDone
@@ -213,12 +171,10 @@ module _ (t : Modulators) where
     OnModulator r = ModulatorDeed (entry of_modulator id.slot id.generation) (modulatorRuns.done_as r)
 
     abbrev ModulatorAlive : Type 0
-    ModulatorAlive = lives_in t.keys id.slot id.generation ≡ true
+    ModulatorAlive = Alive modulators.modulator_table t id
 
-    on_modulator_lem : (f : ℕ → Modulator → ModulatorDone) → ((m : Modulator) → ModulatorAlive → OnModulator (f id.slot m)) → OnModulator (modulators.on_modulator t (where_is modulators.modulator_table t id) f)
-    on_modulator_lem f h =
-        found_case t.keys id.slot id.generation (λ w. OnModulator (modulators.on_modulator t w f)) (λ n z l. modulator_refused _ n) (λ l.
-        read_case OnModulator (refused_call modulators.modulator_table t NEVER_ISSUED) (λ s. f id.slot s.modulator) (modulator_refused _ NEVER_ISSUED) (λ s. h s.modulator l) t.slots id.slot)
+    on_modulator_lem : (f : ℕ → Modulator → ModulatorDone) → (ModulatorAlive → (m : Modulator) → OnModulator (f id.slot m)) → OnModulator (modulators.on_modulator t (where_is modulators.modulator_table t id) f)
+    on_modulator_lem f h = found_lem modulators.modulator_table t id OnModulator (λ i s. f i s.modulator) (λ n z. modulator_refused _ n) (λ l s. h l s.modulator)
 
     modulator_changed : (n : ℕ) (m : Modulator) → ModulatorAlive → OnModulator (set_or n m id.slot)
     modulator_changed n m l =
@@ -228,50 +184,38 @@ module _ (t : Modulators) where
     tweener_changed : (n : ℕ) (to : Tweener → Modulator) → OnModulator (modulators.on_modulator t (where_is modulators.modulator_table t id) (set_tweener n to))
     tweener_changed n to = on_modulator_lem (set_tweener n to) go
       where
-        go : (m : Modulator) → ModulatorAlive → OnModulator (set_tweener n to id.slot m)
-        go (OfTweener old) l = modulator_changed n (to old) l
-        go (OfLfo old) l = modulator_refused _ NEVER_ISSUED
+        go : ModulatorAlive → (m : Modulator) → OnModulator (set_tweener n to id.slot m)
+        go l (OfTweener old) = modulator_changed n (to old) l
+        go l (OfLfo old) = modulator_refused _ NEVER_ISSUED
 
     lfo_changed : (n : Lfo → ℕ) (to : Lfo → Modulator) → OnModulator (modulators.on_modulator t (where_is modulators.modulator_table t id) (set_lfo n to))
     lfo_changed n to = on_modulator_lem (set_lfo n to) go
       where
-        go : (m : Modulator) → ModulatorAlive → OnModulator (set_lfo n to id.slot m)
-        go (OfTweener old) l = modulator_refused _ NEVER_ISSUED
-        go (OfLfo old) l = modulator_changed (n old) (to old) l
+        go : ModulatorAlive → (m : Modulator) → OnModulator (set_lfo n to id.slot m)
+        go l (OfTweener old) = modulator_refused _ NEVER_ISSUED
+        go l (OfLfo old) = modulator_changed (n old) (to old) l
 
   modulator_added : (f : Faults) (m : Modulator) → ModulatorDeed none (modulatorRuns.added_as (modulators.put_of t f m))
   modulator_added f m =
-      let n : ℕ = number_of (of_add f (is_refused (free_of 0 t.keys))) in
-      cond_case (λ r. ModulatorDeed none (modulatorRuns.added_as r)) (placed_in modulators.modulator_table t (modulators.slot_of m) (free_of 0 t.keys)) (refused_add modulators.modulator_table t n)
-      (put (free_of 0 t.keys) refl) (leaves none (refusal n) (unnamed_refusal of_modulator n)) (eqb n 0)
-    where
-      put : (w : Answer Place) → free_of 0 t.keys ≡ w → ModulatorDeed none (modulatorRuns.added_as (placed_in modulators.modulator_table t (modulators.slot_of m) w))
-      put (refused k) e = leaves none (refusal k) (unnamed_refusal of_modulator k)
-      put (accepted (place i g)) e = adds i g (modulators.slot_of m) e
+      added_lem modulators.modulator_table t f (modulators.slot_of m) (λ r. ModulatorDeed none (modulatorRuns.added_as r))
+      (λ n z. leaves none (refusal n) (unnamed_refusal of_modulator n)) (λ i g z e. adds i g (modulators.slot_of m) e)
 
   modulator_deed : (c : ModulatorCommand) → ModulatorDeed (modulator_target c) (run_modulator_of t c)
   unfolding run_modulator_of modulators.add_tweener_of modulators.add_lfo_of modulators.remove_of modulators.set_tweener_of modulators.set_parameter_of modulators.set_waveform_of modulators.set_phase_of
   modulator_deed (modulatorCommand.AddTweener x) = modulator_added (float_faults x) (OfTweener (new_tweener x))
   modulator_deed (modulatorCommand.AddLfo b) = modulator_added (builder_faults b) (OfLfo (new_lfo b))
-  modulator_deed (modulatorCommand.Remove id) = on_modulator_lem id (λ i m. freed modulators.modulator_table t i id.generation) (λ m l. removes id.slot id.generation l)
+  modulator_deed (modulatorCommand.Remove id) = on_modulator_lem id (λ i m. freed modulators.modulator_table t i id.generation) (λ l m. removes id.slot id.generation l)
   modulator_deed (modulatorCommand.SetTweener id x w) = tweener_changed id (first_fault (tweener_faults x w)) (λ old. OfTweener (tweener_to_of x w old))
-  modulator_deed (modulatorCommand.SetParameter id k v w) = lfo_changed id (λ old. first_fault (floats.target_faults v w)) (λ old. OfLfo (modulators.parameter_by old k v w))
+  modulator_deed (modulatorCommand.SetParameter id k v w) = lfo_changed id (λ old. first_fault (target_faults float_tweens v w)) (λ old. OfLfo (modulators.parameter_by old k v w))
   modulator_deed (modulatorCommand.SetWaveform id w) = lfo_changed id (λ old. first_fault (wave_faults w)) (λ old. OfLfo (with_wave_of w old))
   modulator_deed (modulatorCommand.SetPhase id x) = lfo_changed id (λ old. first_fault (float_faults x)) (λ old. OfLfo (with_phase_of x old))
-  modulator_deed (modulatorCommand.Value id) = leaves none _ (unnamed_read of_modulator answers.value (unnamed_value of_modulator) (modulators.modulator_value_of t id))
+  modulator_deed (modulatorCommand.Value id) = leaves none _ (unnamed_read of_modulator answers.value (λ x i g e. cc) (modulators.modulator_value_of t id))
 
 -- ---- frames
 
 module _ (k : Kind) (st : Station) where
   abbrev FrameDeed : Framed → Type 0
   FrameDeed r = Deed k (keys_of k st) (entries_of k st) all (by_number r.refused) (keys_of k r.station) (entries_of k r.station)
-
-  frame_undone : (n : ℕ) → FrameDeed (undone_of st n)
-  frame_undone n = leaves all _ (unnamed_number k n)
-
--- the modulators after these turns
-abbrev pub turned_to : Station → List Slot → Modulators
-turned_to st ss = record { keys = st.modulators.keys; slots = ss }
 
 -- turns leave the keys
 turned_deed :
@@ -281,21 +225,8 @@ turned_deed :
 turned_deed of_clock st cs ss = turns cs
 turned_deed of_modulator st cs ss = turns ss
 
-module _ (k : Kind) (st : Station) (ss : List Slot) where
-  framed_deed : (r : Try) → FrameDeed k st (framed st (turned_to st ss) (closed st.clocks r))
-  framed_deed (went cs rs) = turned_deed k st cs ss
-  framed_deed (stopped n) =
-      cond_case (FrameDeed k st) (record { refused = 0; station = record { clocks = st.clocks; modulators = turned_to st ss }; reports = no_reports }) (undone_of st n)
-      (turned_deed k st st.clocks.clocks ss) (frame_undone k st n) (eqb n 0)
-
 frame_deed : (k : Kind) (st : Station) (dt : Float) → FrameDeed k st (frame_of st dt)
-unfolding frame_of modulators_turned clocks_turned
-frame_deed k st dt =
-    let ss : List Slot = turned (info_in st) dt st.modulators in
-    let r : Try = clock_turns (seeing (info_in st) ss) dt st.clocks.keys 16 0 st.clocks.clocks no_reports in
-    let n : ℕ = first_fault (dt_faults dt) in
-    cond_case (FrameDeed k st) (framed st (turned_to st ss) (closed st.clocks r)) (undone_of st n)
-    (framed_deed k st ss r) (frame_undone k st n) (eqb n 0)
+frame_deed k st dt = frame_case st dt (FrameDeed k st) (λ h cs rs e. turned_deed k st cs (turned_slots st dt)) (λ n y. leaves all _ (unnamed_number k n))
 
 -- ---- every call
 

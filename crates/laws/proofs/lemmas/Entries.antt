@@ -2,26 +2,25 @@
 -- id gives it. Assumes nothing.
 use Prim.Native.Nat.{ℕ, zero, suc, ◌<◌, suc-le-suc}
 use native.Mathlib.Omega.{arith}
-use mathlib.Core.Path.{◌≡◌, sym, ap, ◌∙◌}
-use mathlib.Core.Bool.{true, false≢true}
+use mathlib.Core.Path.{◌≡◌, ap, ◌∙◌}
+use mathlib.Core.Bool.{true}
 use mathlib.Core.List.{List, [], ◌∷◌}
 use lib.ListN.{length, set}
-use Rattle.ids.specs.Keys.{room_at, free_of, lives_in, used_at}
+use Rattle.ids.specs.Keys.{lives_in, used_at}
 use Rattle.ids.specs.Lists.{read_at}
 use Rattle.ids.specs.declared.Key.{Key}
 use Rattle.ids.proofs.Names as names
-use Rattle.ids.proofs.Places.{read_set_same, read_set_other, find_living, found_case, gives}
+use Rattle.ids.proofs.Places.{read_set_same, read_set_other, find_living, found_case}
 use Rattle.judge.specs.Answer.{Answer, accepted, refused}
 use Rattle.judge.specs.Numbers.{NEVER_ISSUED}
 use Rattle.times.specs.declared.time.ClockId.{ClockId}
 use Rattle.ids.specs.Tables.{on_found, read_found, where_is}
-use Rattle.clock_table.specs.ClockTables.{clock_table}
+use Rattle.clock_table.specs.ClockTables.{ClockDone, clock_table}
 use Rattle.clock.specs.declared.Clock.{Clock}
 use Rattle.clock_table.specs.declared.Clocks.{Clocks}
-use Rattle.clock_table.specs.declared.ClockDone.{ClockDone}
 use Rattle.station.specs.declared.Station.{Station}
 use Rattle.laws.specs.Calls.{Call, after, Kind, Entry, keys_of, entries_of, lives, Told, Target, target_of, Touches}
-use Rattle.laws.proofs.Apart.{two_slots}
+use Rattle.laws.proofs.Apart.{slot_taken, two_slots}
 use Rattle.laws.proofs.lemmas.Deeds.{Deed, leaves, changes, removes, adds, turns, deed}
 
 -- ---- a slot of a list
@@ -33,13 +32,13 @@ Holds l i x = read_at (refused NEVER_ISSUED) (λ y. accepted y) l i ≡ accepted
 module _ {A : Type 0} where
   pub holds_read : {B : Type 0} (n : B) (f : A → B) (l : List A) (i : ℕ) (x : A) → Holds l i x → read_at n f l i ≡ f x
   unfolding read_at
-  holds_read n f [] i x h = let z : ◌≡◌ {A = ℕ} 0 1 = cc in absurd (omega arith)
+  holds_read n f [] i x h = absurd (cc)
   holds_read n f (y ∷ l) zero x h = let e : y ≡ x = cc in ap f e
   holds_read n f (y ∷ l) (suc i) x h = holds_read n f l i x h
 
   pub holds_inside : (l : List A) (i : ℕ) (x : A) → Holds l i x → i < length l
   unfolding read_at
-  holds_inside [] i x h = let z : ◌≡◌ {A = ℕ} 0 1 = cc in absurd (omega arith)
+  holds_inside [] i x h = absurd (cc)
   holds_inside (y ∷ l) zero x h = omega arith
   holds_inside (y ∷ l) (suc i) x h = suc-le-suc (holds_inside l i x h)
 
@@ -54,10 +53,6 @@ module _ {A : Type 0} where
 pub lives_used : (ks : List Key) (i g : ℕ) → lives_in ks i g ≡ true → used_at ks i ≡ true
 lives_used ks i g l = (names.living ks i g l).occupied
 
--- an add takes no slot in which an id lives
-taken : (ks : List Key) (j h i g : ℕ) → lives_in ks j h ≡ true → free_of 0 ks ≡ room_at i g → j ≡ i → ⊥
-taken ks j h i g l e p = false≢true (sym (gives ks i g e).empty ∙ (rw p at (lives_used ks j h l)))
-
 module _ (k : Kind) (st : Station) (j h : ℕ) (l : lives k st j h ≡ true) where
   held :
       {ls : List Key} {fs : List (Entry k)} {a : Target} {o : Told} → Deed k (keys_of k st) (entries_of k st) a o ls fs → (Touches a k j h → ⊥)
@@ -65,7 +60,7 @@ module _ (k : Kind) (st : Station) (j h : ℕ) (l : lives k st j h ≡ true) whe
   held (leaves a o u) n x e = e
   held (changes i g y m) n x e = holds_other (entries_of k st) i j x y (λ p. two_slots k st j h i g l m (λ q r. n cc) p) e
   held (removes i g m) n x e = e
-  held (adds i g y f) n x e = holds_other (entries_of k st) i j x y (taken (keys_of k st) j h i g l f) e
+  held (adds i g y f) n x e = holds_other (entries_of k st) i j x y (slot_taken (keys_of k st) j h l i g f) e
   held (turns fs) n x e = absurd (n tt)
 
   pub stays_held : (c : Call) → (Touches (target_of c) k j h → ⊥) → (x : Entry k) → Holds (entries_of k st) j x → Holds (entries_of k (after st c)) j x
@@ -86,7 +81,7 @@ module _ (t : Clocks) (id : ClockId) (c : Clock) where
   pub names_of : read_found clock_table t (where_is clock_table t id) (λ x. x) ≡ accepted c → Names t id c
   names_of =
       found_case t.keys id.slot id.generation (λ w. Tells w → Names t id c)
-      (λ n y l e. let z : ◌≡◌ {A = ℕ} 0 1 = cc in absurd (omega arith))
+      (λ n y l e. absurd (cc))
       (λ l e. record { lives = l; holds = e })
 
   module _ (n : Names t id c) where

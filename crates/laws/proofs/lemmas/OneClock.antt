@@ -7,22 +7,23 @@ use lib.Dec.{eqb}
 use native.Mathlib.Decide.{ℕ_discrete}
 use Rattle.times.specs.declared.time.ClockId.{ClockId}
 use Rattle.times.specs.declared.tween.Tween.{Tween}
-use Rattle.values.specs.declared.value.SpeedValue.{SpeedValue}
-use Rattle.parameter.specs.SpeedParameters.{try_set_of}
-use Rattle.parameter.specs.declared.speed.SpeedParameter.{SpeedParameter}
+use Rattle.values.specs.declared.value.Value.{Value}
+use Rattle.parameter.specs.Parameters.{try_set_of}
+use Rattle.values.specs.Speeds.{speed_tweens}
+use Rattle.values.specs.declared.clock_speed.ClockSpeed.{ClockSpeed}
+use Rattle.parameter.specs.declared.Parameter.{Parameter}
 use Rattle.clock.specs.OneClock.{ticking_of, sped_of, reset_of}
 use Rattle.ids.specs.Tables.{where_is, on_found, changed, refused_call}
-use Rattle.clock_table.specs.ClockTables.{clock_table, by_set, tick_on_of, reset_clock_of, set_speed_of}
+use Rattle.clock_table.specs.ClockTables.{ClockDone, clock_table, by_set, tick_on_of, reset_clock_of, set_speed_of}
 use Rattle.clock.specs.declared.Clock.{Clock}
 use Rattle.clock_table.specs.declared.Clocks.{Clocks}
-use Rattle.clock_table.specs.declared.ClockDone.{ClockDone}
 use Rattle.commands.specs.ClockCommands.{run_clock_of}
 use Rattle.commands.specs.declared.clock_command.ClockCommand.{ClockCommand}
 use Rattle.commands.specs.declared.clock_command.ClockCommand.TheVariants as command
 use Rattle.station.specs.declared.Station.{Station}
 use Rattle.laws.specs.Calls.{clock, of_clock, clock_target, Touches}
 use Rattle.laws.proofs.Apart.{apart}
-use Rattle.laws.proofs.lemmas.Deeds.{cond_case}
+use Rattle.laws.proofs.lemmas.Cases.{cond_case}
 use Rattle.laws.proofs.lemmas.Entries.{holds_same, stays_held, Names, names_on}
 
 -- what a command makes of the clock c of an id
@@ -31,7 +32,7 @@ pub data Makes (id : ClockId) (c : Clock) : ClockCommand → Clock → Type 0 wh
   starts : Makes id c (command.Start id) (ticking_of true c)
   stops : Makes id c (command.Stop id) (ticking_of false c)
   resets : Makes id c (command.Reset id) (reset_of c)
-  speeds : (v : SpeedValue) (w : Tween) (p : SpeedParameter) → Makes id c (command.SetSpeed id v w) (sped_of p c)
+  speeds : (v : Value ClockSpeed) (w : Tween) (p : Parameter ClockSpeed) → Makes id c (command.SetSpeed id v w) (sped_of p c)
 
 -- the clock that the id has behind it
 pub record Made (t : Clocks) (id : ClockId) (c : Clock) (x : ClockCommand) : Type 0 where
@@ -95,8 +96,8 @@ module _ (st : Station) (id : ClockId) (c : Clock) (n : Names st.clocks id c) wh
     where
       set : Done (command.SetSpeed id v w) (set_speed_of st.clocks id v w)
       set =
-          let s = try_set_of c.speed v w in
-          found (command.SetSpeed id v w) (λ i x. by_set st.clocks i x (try_set_of x.speed v w))
+          let s = try_set_of speed_tweens c.speed v w in
+          found (command.SetSpeed id v w) (λ i x. by_set st.clocks i x (try_set_of speed_tweens x.speed v w))
           (cond_case (Done (command.SetSpeed id v w)) (changed clock_table st.clocks id.slot (sped_of s.parameter c)) (refused_call clock_table st.clocks s.refused)
           (own (command.SetSpeed id v w) (sped_of s.parameter c) (speeds v w s.parameter))
           (record { now = c; names = n; by = speeds v w c.speed }) (eqb s.refused 0))

@@ -1,43 +1,26 @@
--- `op_line` is proved. Assumes nothing.
+-- `op_line` is proved: the row that is found is the first that has the line. Assumes nothing.
+use mathlib.Core.Path.{refl, sym, ap, ◌∙◌}
+use mathlib.Core.List.{List}
+use Rattle.std.proofs.Common.{rules, tests}
+use Rattle.std.proofs.lemmas.Iterator.{YieldsList-from_slice}
+use Rattle.std.proofs.lemmas.Iterator.Search.{find_from_yields_List}
+use Rattle.text.proofs.Tables.{Named, thing, is_named, among, found}
 use Rattle.record.specs.Records.{op_of}
-use mathlib.Core.Path.{sym, ◌∙◌}
+use Rattle.record.specs.declared.Op.{Op}
 use Rattle.record.proofs.op_line.Goals as goal
 
-pub returns-then-is : goal.returns-then-is
-unfolding op_of
-returns-then-is c = rw (sym c.is.ensures ∙ c.if-is.true)
-
-pub returns-then-is-2 : goal.returns-then-is-2
-unfolding op_of
-returns-then-is-2 c =
-    rw (sym c.is.ensures ∙ c.if-is.false, sym c.is-2.ensures ∙ c.if-is-2.true)
-
-pub returns-then-is-3 : goal.returns-then-is-3
-unfolding op_of
-returns-then-is-3 c =
-    rw (sym c.is.ensures ∙ c.if-is.false, sym c.is-2.ensures ∙ c.if-is-2.false, sym c.is-3.ensures ∙ c.if-is-3.true)
-
-pub returns-then-is-4 : goal.returns-then-is-4
-unfolding op_of
-returns-then-is-4 c =
-    rw (sym c.is.ensures ∙ c.if-is.false, sym c.is-2.ensures ∙ c.if-is-2.false, sym c.is-3.ensures ∙ c.if-is-3.false, sym c.is-4.ensures ∙ c.if-is-4.true)
-
-pub returns-then-is-5 : goal.returns-then-is-5
-unfolding op_of
-returns-then-is-5 c =
-    rw (sym c.is.ensures ∙ c.if-is.false, sym c.is-2.ensures ∙ c.if-is-2.false, sym c.is-3.ensures ∙ c.if-is-3.false, sym c.is-4.ensures ∙ c.if-is-4.false, sym c.is-5.ensures ∙ c.if-is-5.true)
-
-pub returns-then-is-6 : goal.returns-then-is-6
-unfolding op_of
-returns-then-is-6 c =
-    rw (sym c.is.ensures ∙ c.if-is.false, sym c.is-2.ensures ∙ c.if-is-2.false, sym c.is-3.ensures ∙ c.if-is-3.false, sym c.is-4.ensures ∙ c.if-is-4.false, sym c.is-5.ensures ∙ c.if-is-5.false, sym c.is-6.ensures ∙ c.if-is-6.true)
-
-pub returns-then-is-7 : goal.returns-then-is-7
-unfolding op_of
-returns-then-is-7 c =
-    rw (sym c.is.ensures ∙ c.if-is.false, sym c.is-2.ensures ∙ c.if-is-2.false, sym c.is-3.ensures ∙ c.if-is-3.false, sym c.is-4.ensures ∙ c.if-is-4.false, sym c.is-5.ensures ∙ c.if-is-5.false, sym c.is-6.ensures ∙ c.if-is-6.false, sym c.is-7.ensures ∙ c.if-is-7.true)
+pub returns-in_err-row : goal.returns-in_err-row
+unfolding op_of among
+returns-in_err-row c =
+    let l = c.args.line.now in
+    let all = c.iter.result.rest.now in
+    let first = find_from_yields_List (is_named l) _ _ c.find.result c.find.ensures.ran (YieldsList-from_slice all refl) (λ x b q k. search (rules, tests)) in
+    c.from_residual.ensures ∙ ap thing (sym c.in_err-row.was) ∙ found l all _ first ∙ ap (λ (ps : List (Named Op)). among l ps) c.iter.ensures.rest
 
 pub returns : goal.returns
-unfolding op_of
+unfolding op_of among
 returns c =
-    rw (sym c.is.ensures ∙ c.if-is.false, sym c.is-2.ensures ∙ c.if-is-2.false, sym c.is-3.ensures ∙ c.if-is-3.false, sym c.is-4.ensures ∙ c.if-is-4.false, sym c.is-5.ensures ∙ c.if-is-5.false, sym c.is-6.ensures ∙ c.if-is-6.false, sym c.is-7.ensures ∙ c.if-is-7.false)
+    let l = c.args.line.now in
+    let all = c.iter.result.rest.now in
+    let first = find_from_yields_List (is_named l) _ _ c.find.result c.find.ensures.ran (YieldsList-from_slice all refl) (λ x b q k. search (rules, tests)) in
+    ap thing (sym c.in_ok-row.was) ∙ found l all _ first ∙ ap (λ (ps : List (Named Op)). among l ps) c.iter.ensures.rest

@@ -2,7 +2,7 @@
 -- place; only at the place itself the part is a record's first. Assumes nothing.
 use Rattle.recording.proofs.Lines.{left_on, ends_inside, no_room_lem, judges}
 use Rattle.record.proofs.Parts.{not_first}
-use Rattle.record.proofs.field.Lines.{onward}
+use Rattle.text.proofs.Bytes.{onward}
 use Rattle.recording.specs.Recordings.{lines_from, tape_of, first_of}
 use lib.ListN.{drop_of_length-le}
 use lib.Seq.{length-take-le}

@@ -7,10 +7,10 @@ use Rattle.report.proofs.clock_lines.Goals as goal
 pub returns : goal.returns
 returns c =
     record {
-      result_after = rw (c.started.ensures, c.position.ensures) at c.lines.ensures;
+      puts = rw (c.started.ensures, c.position.ensures) at c.lines.ensures;
       c_len_bound =
-          longest c.args.id c.args.c
+          longest c.args.id c.args.c.now
           c.requires
-          (omega (arith, c.well_formed.1.1.0.1.1.1.0.1))
+          (omega (arith, c.well_formed.1.0.1.1.1.0.1))
           (rw (← c.position.ensures) (omega (arith, c.position.type_inv)));
     }

@@ -1,15 +1,6 @@
--- `report::slot_lines` is proved: the clock's lines where the slot is used, and else none. Assumes nothing.
-use borrow.Author.Tests.{not-true, not-false}
-use native.Mathlib.Omega.{arith}
-use mathlib.Core.Path.{refl}
+-- A slot that is not used has no lines. It is answered here, so that a must-fail edit can name its goal.
+use Rattle.std.proofs.Common.{rules}
 use Rattle.report.proofs.slot_lines.Goals as goal
 
-pub returns-then-not-k : goal.returns-then-not-k
-returns-then-not-k c =
-    let unused = not-true c.args.k.used c.if-not-k.true in
-    record { result_after = rw unused refl; c_len_bound = rw unused (omega arith) }
-
-pub returns : goal.returns
-returns c =
-    let used = not-false c.args.k.used c.if-not-k.false in
-    record { result_after = rw used c.clock_lines.ensures.result_after; c_len_bound = rw used c.clock_lines.ensures.c_len_bound }
+pub returns-then-not-k-clause-puts : goal.returns-then-not-k-clause-puts
+returns-then-not-k-clause-puts c = search rules

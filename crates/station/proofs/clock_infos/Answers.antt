@@ -1,14 +1,11 @@
--- `clock_infos` meets its contract: the loop fills in what `clock_info` shows of each clock. Assumes nothing.
-use mathlib.Core.Path.{refl}
-use Rattle.station.proofs.Filled.{fill_none, fill_more, fill_all}
+-- `clock_infos` meets its contract: what is seen of each clock is what `info` gives of it. Assumes nothing.
+use native.Mathlib.Omega.{arith}
+use Rattle.std.proofs.Common.{rules}
+use Rattle.clock.specs.OneClock.{info_of}
+use Rattle.clock_table.proofs.Slots.{at_rest}
+use Rattle.station.proofs.Filled.{lent}
 use Rattle.station.proofs.clock_infos.Goals as goal
 
-pub loop-i-init : goal.loop-i-init
-loop-i-init c = fill_none _ _ _ c.well_formed.0.1.0.1 refl
-
-pub loop-i-preserved : goal.loop-i-preserved
-loop-i-preserved c =
-    fill_more _ _ _ _ _ _ c.loop-i-test.true c.clock_info.ensures c.loop-i.invariant
-
 pub returns : goal.returns
-returns c = fill_all _ _ _ _ c.loop-i-test.false c.loop-i.invariant
+returns c =
+    lent _ info_of (record { ref_ptr = c.args.clocks.ref_ptr; now = at_rest }) c.each_ref.ensures.items (omega arith) c.map.ensures.items (λ p x y q h. search (rules, h))

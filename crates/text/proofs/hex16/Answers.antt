@@ -1,10 +1,8 @@
--- `text::hex16` is proved: sixteen bytes are read as digits, and any other number of them is refused. Assumes nothing.
-use mathlib.Core.Path.{◌∙◌}
-use Rattle.text.proofs.Digits.{wrong_length, right_length}
+-- What is not sixteen digits is answered here, so that a must-fail edit can name its goal.
+use Rattle.std.proofs.Common.{rules}
+use Rattle.text.specs.Numbers.{hex16_of}
 use Rattle.text.proofs.hex16.Goals as goal
 
 pub returns-then-s-ne16 : goal.returns-then-s-ne16
-returns-then-s-ne16 c = wrong_length c.args.s.now c.if-s-ne16.true
-
-pub returns : goal.returns
-returns c = c.spelled.ensures ∙ right_length c.args.s.now c.if-s-ne16.false
+unfolding hex16_of
+returns-then-s-ne16 c = search rules

@@ -8,17 +8,18 @@ use mathlib.Core.Bool.{false}
 use Prim.Native.Nat.{ℕ}
 use lib.Ieee.{Float, fin, binary64, fits, le, of_bits, to_unsigned}
 use Rattle.doubles.specs.Doubles.{one_f, fract_of}
-use Rattle.ticks.specs.WholeTicks.{told_count, more_of, by_count, room_for, taken_of}
-use Rattle.ticks.specs.declared.Counted.{Counted}
+use Rattle.judge.specs.Answer.{Answer}
+use Rattle.judge.proofs.Judged.{handed_on}
+use Rattle.ticks.specs.WholeTicks.{more_of, by_count, room_for, taken_of}
 use Rattle.ticks.proofs.Sums.{taken_part, taken_whole, taken_full, top_bits, top_ticks}
 use Rattle.ticks.proofs.take_ticks.Goals as goal
 
 -- what `fract` and `more_ticks` answer is the definition's
-counted : (n : ℕ) (x f : Float) (u : ℕ) (a r : Counted) → T (fits binary64 x) → T (le one_f x) → le (fin false 1 (pos 64)) x ≡ false → f ≡ fract_of x → u ≡ to_unsigned 64 x → told_count a ≡ more_of n u → a ≡ r → by_count f (told_count r) ≡ taken_of n x
+counted : (n : ℕ) (x f : Float) (u : ℕ) (a : Answer ℕ) → T (fits binary64 x) → T (le one_f x) → le (fin false 1 (pos 64)) x ≡ false → f ≡ fract_of x → u ≡ to_unsigned 64 x → a ≡ more_of n u → by_count f a ≡ taken_of n x
 unfolding room_for
-counted n x f u a r h one below fs us ts e =
-    ap (λ (z : Float). by_count z (told_count r)) fs
-    ∙ ap (by_count (fract_of x)) (ap told_count (sym e) ∙ ts ∙ ap (more_of n) (us ∙ top_bits x h below))
+counted n x f u a h one below fs us e =
+    ap (λ (z : Float). by_count z a) fs
+    ∙ ap (by_count (fract_of x)) (e ∙ ap (more_of n) (us ∙ top_bits x h below))
     ∙ sym (taken_whole n x one)
 
 pub returns-then-not-sum : goal.returns-then-not-sum
@@ -31,14 +32,15 @@ returns-then-sum c =
     let l = top_ticks c.args.sum (subst T (sym c.well_formed.1.0.1) tt) c.if-sum.true in
     sym (taken_full c.args.ticks c.args.sum (subst T (sym c.if-not-sum.false) tt) (omega (arith, l)))
 
-pub returns-in_default : goal.returns-in_default
+pub returns-in_err-more_ticks : goal.returns-in_err-more_ticks
 unfolding of_bits
-returns-in_default c =
-    counted c.args.ticks c.args.sum _ _ _ _ (subst T (sym c.well_formed.1.0.1) tt) (subst T (sym c.if-not-sum.false) tt) c.if-sum.false
-    c.fract-fraction.ensures c.to_u64.ensures c.more_ticks.ensures c.in_default.is
+returns-in_err-more_ticks c =
+    handed_on _ _ c.from_residual.ensures
+    ∙ counted c.args.ticks c.args.sum _ _ _ (subst T (sym c.well_formed.1.0.1) tt) (subst T (sym c.if-not-sum.false) tt) c.if-sum.false
+    c.fract-fraction.ensures c.to_u64.ensures c.in_err-more_ticks.ensures
 
 pub returns : goal.returns
 unfolding of_bits
 returns c =
-    counted c.args.ticks c.args.sum _ _ _ _ (subst T (sym c.well_formed.1.0.1) tt) (subst T (sym c.if-not-sum.false) tt) c.if-sum.false
-    c.fract-fraction.ensures c.to_u64.ensures c.more_ticks.ensures c.in-Are.is
+    counted c.args.ticks c.args.sum _ _ _ (subst T (sym c.well_formed.1.0.1) tt) (subst T (sym c.if-not-sum.false) tt) c.if-sum.false
+    c.fract-fraction.ensures c.to_u64.ensures c.in_ok-more_ticks.ensures

@@ -2,7 +2,7 @@
 -- Assumes nothing.
 use mathlib.Core.Path.{◌≡◌, refl, sym, ap, ◌∙◌, subst}
 use Prim.Native.Nat.{ℕ, ◌+◌, ◌-◌, ◌*◌, ◌/◌, ◌%◌, ◌^◌, ◌≤◌, ◌<◌, min, compare}
-use native.Mathlib.Nat.{le_trans, le_of_eq, lt_of_le_of_lt, zero-mul, mul_comm, mul_assoc, mul_right_comm, mul-pos, mul-le-mul_right, mul-le-mul_left, le-div_iff_mul-le, zero-lt-suc}
+use native.Mathlib.Nat.{le_trans, le_of_eq, lt_of_le_of_lt, zero-mul, add_comm, mul_comm, mul_assoc, mul_right_comm, mul-pos, mul-le-mul_right, mul-le-mul_left, le-div_iff_mul-le, zero-lt-suc}
 use native.Mathlib.Omega.{arith}
 use mathlib.Core.Bool.{true, false, true≢false, false≢true}
 use lib.IntN.{pos}
@@ -183,7 +183,7 @@ module _ (x : Float) (F : T (fits binary64 x)) (b : ℕ) (is : b ≡ to_bits bin
       ∙ ap (λ (z : ℕ). nearest_of z 11 + q * 2 ^ c / 2 ^ 52 * 1000000000) (sym (mod-mod-pow (q * 2 ^ c) 12 52))
       ∙ ap (λ (z : ℕ). nearest_of (part_of b) 11 + z * 1000000000) w)
 
-  -- the seconds alone are too many, they and the rest are, or neither; t is what `rounded` answers
+  -- the seconds alone are too many, or they and the rest are counted; t is what `rounded` answers
   module _ (lo : 1023 ≤ b / 4503599627370496) (hi : b / 4503599627370496 ≤ 1057) where
     pub too_long : 18446744073 < full_of b → 18446744073709551615 ≡ nanos_of x
     too_long h = sym (above lo hi ∙ capped (nearest_of (part_of b) 11 + full_of b * 1000000000) (2 ^ 64 - 1) (omega arith))
@@ -191,11 +191,5 @@ module _ (x : Float) (F : T (fits binary64 x)) (b : ℕ) (is : b ≡ to_bits bin
     with_part : (t : ℕ) → t ≡ nearest_of (part_of b) 11 → nanos_of x ≡ min (t + full_of b * 1000000000) (2 ^ 64 - 1)
     with_part t e = above lo hi ∙ ap (λ (z : ℕ). min (z + full_of b * 1000000000) (2 ^ 64 - 1)) (sym e)
 
-    pub too_much : (t : ℕ) → t ≡ nearest_of (part_of b) 11 → 18446744073709551615 - full_of b * 1000000000 < t → 18446744073709551615 ≡ nanos_of x
-    too_much t e h = sym (with_part t e ∙ capped (t + full_of b * 1000000000) (2 ^ 64 - 1) (omega arith))
-
-    pub in_all : (t : ℕ) → t ≡ nearest_of (part_of b) 11 → full_of b ≤ 18446744073 → t ≤ 18446744073709551615 - full_of b * 1000000000 → full_of b * 1000000000 + t ≡ nanos_of x
-    in_all t e s h = sym (with_part t e ∙ go t (full_of b * 1000000000) (omega arith))
-      where
-        go : (t f : ℕ) → f + t ≤ 2 ^ 64 - 1 → min (t + f) (2 ^ 64 - 1) ≡ f + t
-        go t f h = omega arith
+    pub in_all : (t : ℕ) → t ≡ nearest_of (part_of b) 11 → min (full_of b * 1000000000 + t) (2 ^ 64 - 1) ≡ nanos_of x
+    in_all t e = ap (λ (z : ℕ). min z (2 ^ 64 - 1)) (add_comm (full_of b * 1000000000) t) ∙ sym (with_part t e)

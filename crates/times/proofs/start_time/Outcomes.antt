@@ -1,11 +1,8 @@
 -- Any two outcomes that a statement allows coincide, for each public function of the module: `One` of the crate
 -- `doubles` says it of the very clause that the check reads off the source. A clause says what the result is, or what
 -- it tells, and no two results tell the same. RULES, one-outcome. Assumes nothing.
-use mathlib.Core.Path.{◌≡◌}
 use Rattle.doubles.proofs.Outcomes.{One, equal}
-use Rattle.times.specs.Starts.{told_start}
-use Rattle.times.specs.declared.start_time.StartUp.{StartUp}
-use Rattle.times.specs.declared.start_time.StartUp.TheVariants as started
+use Rattle.judge.proofs.Outcomes.{same_told, one_told}
 use Rattle.times.proofs.start_time.start_faults.Reads as start-faults
 use Rattle.times.proofs.start_time.start_faults.Kinds as start-faults-kinds
 use Rattle.times.proofs.start_time.shorter.Reads as shorter
@@ -14,14 +11,6 @@ use Rattle.times.proofs.start_time.update.Reads as update
 use Rattle.times.proofs.start_time.update.Kinds as update-kinds
 use Rattle.times.proofs.start_time.try_update.Reads as try-update
 use Rattle.times.proofs.start_time.try_update.Kinds as try-update-kinds
-use Rattle.judge.proofs.Outcomes.{told}
-
--- two answers that tell the same are one
-same_start : (x y : StartUp) → told_start x ≡ told_start y → x ≡ y
-same_start (started.Is i) (started.Is j) e = cc
-same_start (started.Is i) (started.Refused n) e = cc
-same_start (started.Refused m) (started.Is j) e = cc
-same_start (started.Refused m) (started.Refused n) e = cc
 
 pub one_start_faults : One 0 start-faults-kinds.ps start-faults-kinds.r start-faults.Post
 one_start_faults κs a x y s t = equal
@@ -33,4 +22,4 @@ pub one_update : One 0 update-kinds.ps update-kinds.r update.Post
 one_update κs a x y s t = equal
 
 pub one_try_update : One 0 try-update-kinds.ps try-update-kinds.r try-update.Post
-one_try_update κs a x y s t = told same_start x y
+one_try_update κs a x y s t = one_told same_told x y

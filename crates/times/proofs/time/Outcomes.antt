@@ -1,13 +1,8 @@
 -- Any two outcomes that a statement allows coincide, for each public function of the module: `One` of the crate
 -- `doubles` says it of the very clause that the check reads off the source. A clause says what the result is, or what
 -- it tells, and no two results tell the same. RULES, one-outcome. Assumes nothing.
-use mathlib.Core.Path.{◌≡◌}
 use Rattle.doubles.proofs.Outcomes.{One, equal}
-use Rattle.times.specs.Times.{told_time, told_order}
-use Rattle.times.specs.declared.time.Timed.{Timed}
-use Rattle.times.specs.declared.time.Timed.TheVariants as timed
-use Rattle.times.specs.declared.time.Compared.{Compared}
-use Rattle.times.specs.declared.time.Compared.TheVariants as compared
+use Rattle.judge.proofs.Outcomes.{same_told, one_told}
 use Rattle.times.proofs.time.time_at.Reads as time-at
 use Rattle.times.proofs.time.time_at.Kinds as time-at-kinds
 use Rattle.times.proofs.time.clock_time_faults.Reads as clock-time-faults
@@ -28,20 +23,6 @@ use Rattle.times.proofs.time.partial_cmp.Reads as partial-cmp
 use Rattle.times.proofs.time.partial_cmp.Kinds as partial-cmp-kinds
 use Rattle.times.proofs.time.try_partial_cmp.Reads as try-partial-cmp
 use Rattle.times.proofs.time.try_partial_cmp.Kinds as try-partial-cmp-kinds
-use Rattle.judge.proofs.Outcomes.{told}
-
--- two answers that tell the same are one
-pub same_time : (x y : Timed) → told_time x ≡ told_time y → x ≡ y
-same_time (timed.At i) (timed.At j) e = cc
-same_time (timed.At i) (timed.Refused n) e = cc
-same_time (timed.Refused m) (timed.At j) e = cc
-same_time (timed.Refused m) (timed.Refused n) e = cc
-
-same_order : (x y : Compared) → told_order x ≡ told_order y → x ≡ y
-same_order (compared.Is i) (compared.Is j) e = cc
-same_order (compared.Is i) (compared.Refused n) e = cc
-same_order (compared.Refused m) (compared.Is j) e = cc
-same_order (compared.Refused m) (compared.Refused n) e = cc
 
 pub one_time_at : One 0 time-at-kinds.ps time-at-kinds.r time-at.Post
 one_time_at κs a x y s t = equal
@@ -53,22 +34,22 @@ pub one_from_ticks_u64 : One 0 from-ticks-u64-kinds.ps from-ticks-u64-kinds.r fr
 one_from_ticks_u64 κs a x y s t = equal
 
 pub one_try_from_ticks_f64 : One 0 try-from-ticks-f64-kinds.ps try-from-ticks-f64-kinds.r try-from-ticks-f64.Post
-one_try_from_ticks_f64 κs a x y s t = told same_time x y
+one_try_from_ticks_f64 κs a x y s t = one_told same_told x y
 
 pub one_try_add_u64 : One 0 try-add-u64-kinds.ps try-add-u64-kinds.r try-add-u64.Post
-one_try_add_u64 κs a x y s t = told same_time x y
+one_try_add_u64 κs a x y s t = one_told same_told x y
 
 pub one_try_sub_u64 : One 0 try-sub-u64-kinds.ps try-sub-u64-kinds.r try-sub-u64.Post
-one_try_sub_u64 κs a x y s t = told same_time x y
+one_try_sub_u64 κs a x y s t = one_told same_told x y
 
 pub one_try_add_f64 : One 0 try-add-f64-kinds.ps try-add-f64-kinds.r try-add-f64.Post
-one_try_add_f64 κs a x y s t = told same_time x y
+one_try_add_f64 κs a x y s t = one_told same_told x y
 
 pub one_try_sub_f64 : One 0 try-sub-f64-kinds.ps try-sub-f64-kinds.r try-sub-f64.Post
-one_try_sub_f64 κs a x y s t = told same_time x y
+one_try_sub_f64 κs a x y s t = one_told same_told x y
 
 pub one_partial_cmp : One 0 partial-cmp-kinds.ps partial-cmp-kinds.r partial-cmp.Post
 one_partial_cmp κs a x y s t = equal
 
 pub one_try_partial_cmp : One 0 try-partial-cmp-kinds.ps try-partial-cmp-kinds.r try-partial-cmp.Post
-one_try_partial_cmp κs a x y s t = told same_order x y
+one_try_partial_cmp κs a x y s t = one_told same_told x y

@@ -1,6 +1,7 @@
 -- A clock time as one whole number, its ticks and its fraction in units of 2^-1074. The order of two times of a clock
 -- is the order of their numbers. RULES, exact-size and time-order. Assumes nothing.
-use Prim.Native.Nat.{ℕ, ◌+◌, ◌*◌, ◌^◌, ◌≤◌, ◌<◌, compare, Ordering}
+use Prim.Native.Nat.{ℕ, ◌+◌, ◌*◌, ◌^◌, ◌≤◌, ◌<◌, compare}
+use Prim.Native.Nat as nat
 use native.Mathlib.Decide.{dec_lt, ℕ_discrete}
 use native.Mathlib.Nat.{suc-mul, mul-le-mul_right, le_trans, le_of_eq, mul_comm, mul-pos, lt_of_lt_of_le, lt_of_le_of_lt, mul-lt-mul_of_pos_right, lt_of_mul-lt-mul_right, le_of_lt, le_antisymm}
 use native.Mathlib.Omega.{arith}
@@ -17,8 +18,9 @@ use Rattle.doubles.proofs.Scaled.{scaled_value, crossed_le, crossed_lt}
 use Rattle.judge.specs.Judge.{bad_fraction}
 use Rattle.times.specs.Times.{exact_of, order_fractions, order_of, is_less}
 use Rattle.times.specs.declared.time.ClockTime.{ClockTime}
-use Rattle.times.specs.declared.time.Order.{Order}
-use Rattle.times.specs.declared.time.Order.TheVariants.{Less, Equal, Greater}
+use Rattle.std.specs.Prelude.{Option, Some}
+use Rattle.std.specs.declared.cmp.Ordering.{Ordering}
+use Rattle.std.specs.declared.cmp.Ordering.TheVariants.{Less, Equal, Greater}
 use Rattle.times.proofs.duration.Compares.{compare_lt, compare_eq, compare_gt}
 
 -- a number is below, at or above another
@@ -76,10 +78,10 @@ not_refused (fin false m e) k c v l =
 
 -- ---- the order of two numbers, and of two fractions that are a / u and b / u
 
-abbrev pub ordered : Ordering → Order
-ordered Ordering.lt = Less
-ordered Ordering.eq = Equal
-ordered Ordering.gt = Greater
+abbrev pub ordered : nat.Ordering → Option Ordering
+ordered nat.Ordering.lt = Some Less
+ordered nat.Ordering.eq = Some Equal
+ordered nat.Ordering.gt = Some Greater
 
 pub is_less_lem : (a b : ℕ) → is_less (ordered (compare a b)) ≡ ltb a b
 is_less_lem a b =

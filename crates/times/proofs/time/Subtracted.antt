@@ -206,12 +206,12 @@ granted t x u e = go (number_of c) refl e
         absurd (clash (rw f at i))
       where
         clash : refused (suc m) ≡ accepted u → ⊥
-        clash i = let z : ◌≡◌ {A = ℕ} 0 1 = cc in omega arith
+        clash i = cc
 
 refused_so : (t : ClockTime) (x : Float) → BeforeZero t x (earlier_of t x)
 unfolding earlier_of number_of
 refused_so t x = record {
-  given = λ h l. sym (below f false (too_little t x) (subtracted t x) refl refl h refl (lt-ltb (exact_of t) (scaled x) l));
+  given = λ h l. sym (below f false (too_little t x) (subtracted t x) refl (sym h) refl (lt-ltb (exact_of t) (scaled x) l));
   only = λ e. go (first_fault f) refl (too_little t x) (ltb-true (exact_of t) (scaled x)) (to_six f) (sym (refused_by _ _ _ e) ∙ arguments_first false false false false (too_little t x) f);
 }
   where
@@ -267,7 +267,7 @@ module _ (t : ClockTime) (D : T (fits binary64 t.fraction)) (h : bad_fraction t.
 
   zero_earlier : earlier_of t zero_f ≡ accepted t
   unfolding earlier_of
-  zero_earlier = sym (clear (shift_faults t zero_f) false (too_little t zero_f) (subtracted t zero_f) refl refl no_fault refl (le-ltb (exact_of t) (scaled zero_f) (rw nothing zero-le))) ∙ ap accepted same
+  zero_earlier = sym (clear (shift_faults t zero_f) false (too_little t zero_f) (subtracted t zero_f) refl (sym no_fault) refl (le-ltb (exact_of t) (scaled zero_f) (rw nothing zero-le))) ∙ ap accepted same
 
   pub zero_off : try_sub_float_of t zero_f ≡ accepted t
   zero_off = sym (sub_plain t zero_f refl) ∙ zero_earlier

@@ -2,7 +2,7 @@
 -- `doubles` says it of the very clause that the check reads off the source. A clause says what the result is, or what
 -- it tells, and no two results tell the same. RULES, one-outcome. Assumes nothing.
 use Rattle.doubles.proofs.Outcomes.{One, equal}
-use Rattle.judge.proofs.Outcomes.{same_float, told}
+use Rattle.judge.proofs.Outcomes.{same_told, one_told}
 use Rattle.times.proofs.tween.power.Reads as power
 use Rattle.times.proofs.tween.power.Kinds as power-kinds
 use Rattle.times.proofs.tween.apply.Reads as apply
@@ -31,7 +31,7 @@ pub one_tween_faults : One 0 tween-faults-kinds.ps tween-faults-kinds.r tween-fa
 one_tween_faults κs a x y s t = equal
 
 pub one_try_apply : One 0 try-apply-kinds.ps try-apply-kinds.r try-apply.Post
-one_try_apply κs a x y s t = told same_float x y
+one_try_apply κs a x y s t = one_told same_told x y
 
 pub one_tween_value : One 0 tween-value-kinds.ps tween-value-kinds.r tween-value.Post
 one_tween_value κs a x y s t = equal

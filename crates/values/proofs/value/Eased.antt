@@ -14,15 +14,15 @@ use Rattle.doubles.specs.Intervals.{InUnit}
 use Rattle.doubles.proofs.Unit.{le_of_not_lt, clamp_unit, complement_unit, powers_unit, twice_low, twice_high, low_half, high_half}
 use Rattle.doubles.proofs.Quotients.{quotient_is}
 use Rattle.judge.specs.Judge.{no_faults, bad_float}
-use Rattle.values.specs.Speeds.{read_in_of, bad_speed}
+use Rattle.values.specs.Speeds.{read_in_of, bad_speed, unit_of, speed_tweens}
 use Rattle.judge.specs.declared.Faults.{Faults}
 use Rattle.values.specs.declared.clock_speed.ClockSpeed.{ClockSpeed}
 use Rattle.values.specs.declared.clock_speed.ClockSpeed.TheVariants.{SecondsPerTick, TicksPerSecond, TicksPerMinute}
 use Rattle.values.specs.RunningSpeeds.{Reachable, number_of}
 use Rattle.values.proofs.clock_speed.Rates.{like, neither, accepted_above, interpolated_reachable}
 use Rattle.times.specs.Easings.{power_of, in_out_at, in_out_of, apply_of}
-use Rattle.values.specs.Values.{amount_of, map_speed_of, unit_of, speed_map_faults}
-use Rattle.values.specs.declared.value.SpeedMapping.{SpeedMapping}
+use Rattle.values.specs.Values.{amount_of, map_of, mapping_faults}
+use Rattle.values.specs.declared.value.Mapping.{Mapping}
 use Rattle.times.specs.declared.tween.Easing.{Easing}
 use Rattle.times.specs.declared.tween.Easing.TheVariants.{Linear, InPowi, OutPowi, InOutPowi}
 
@@ -82,9 +82,9 @@ same_unit (TicksPerMinute x) (TicksPerSecond y) e = absurd (false≢true e)
 same_unit (TicksPerMinute x) (TicksPerMinute y) e = refl
 
 -- a mapping to speeds that is not refused gives a speed that a tween may go towards, so one of a running clock
-module _ (m : SpeedMapping) (x : Float) (F : T (fits binary64 m.in_lo)) (G : T (fits binary64 m.in_hi)) (P : T (fits binary64 (number_of m.out_lo))) (Q : T (fits binary64 (number_of m.out_hi))) (X : T (finite x)) (e : speed_map_faults m ≡ no_faults) where
-  pub mapped_reachable : Reachable (map_speed_of m x)
-  unfolding map_speed_of
+module _ (m : Mapping ClockSpeed) (x : Float) (F : T (fits binary64 m.in_lo)) (G : T (fits binary64 m.in_hi)) (P : T (fits binary64 (number_of m.out_lo))) (Q : T (fits binary64 (number_of m.out_hi))) (X : T (finite x)) (e : mapping_faults speed_tweens m ≡ no_faults) where
+  pub mapped_reachable : Reachable (map_of speed_tweens m x)
+  unfolding map_of
   mapped_reachable =
       let lo = m.in_lo in
       let hi = m.in_hi in

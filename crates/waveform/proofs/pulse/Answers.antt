@@ -2,10 +2,6 @@
 use lib.Ieee.{of_bits, neg}
 use Rattle.waveform.proofs.pulse.Goals as goal
 
-pub returns-then-phase-width : goal.returns-then-phase-width
-unfolding of_bits
-returns-then-phase-width c = rw c.if-phase-width.true
-
 pub returns : goal.returns
 unfolding of_bits neg
 returns c = rw c.if-phase-width.false

@@ -1,6 +1,7 @@
--- `is` is proved: `same` answers whether the two are one list. Assumes nothing.
-use Rattle.record.proofs.field.Lines.{same_told}
+-- `is` is proved: `==` compares byte by byte. Assumes nothing.
+use mathlib.Core.Path.{◌∙◌}
+use Rattle.text.proofs.Bytes.{same_pointwise}
 use Rattle.record.proofs.field.is.Goals as goal
 
 pub returns : goal.returns
-returns c = same_told c.same.result _ _ c.same.ensures
+returns c = c.eq.ensures ∙ same_pointwise c.args.line.now c.args.bytes.now

@@ -1,8 +1,8 @@
 -- `duration::nanos` is proved: each of its answers is a law of `Spans` at the bits of dt. Assumes nothing.
-use mathlib.Core.Path.{sym, subst}
+use mathlib.Core.Path.{sym, subst, ◌∙◌}
 use native.Mathlib.Omega.{arith}
 use lib.Dec.{T}
-use Rattle.times.proofs.duration.Spans.{tiny, huge, not_above, below, too_long, too_much, in_all}
+use Rattle.times.proofs.duration.Spans.{tiny, huge, not_above, below, too_long, in_all}
 use Rattle.times.proofs.duration.nanos.Goals as goal
 
 pub returns-then-e-lt992 : goal.returns-then-e-lt992
@@ -24,10 +24,7 @@ pub returns-then-seconds-gt18446744073 : goal.returns-then-seconds-gt18446744073
 returns-then-seconds-gt18446744073 c =
     too_long c.args.dt (subst T (sym c.well_formed.0.1) tt) c.bits-b.result c.bits-b.ensures c.if-e-lt1023.false c.if-e-gt1057.false c.if-seconds-gt18446744073.true
 
-pub returns-then-part-full : goal.returns-then-part-full
-returns-then-part-full c =
-    too_much c.args.dt (subst T (sym c.well_formed.0.1) tt) c.bits-b.result c.bits-b.ensures c.if-e-lt1023.false c.if-e-gt1057.false c.rounded-part.result c.rounded-part.ensures c.if-part-full.true
-
 pub returns : goal.returns
 returns c =
-    in_all c.args.dt (subst T (sym c.well_formed.0.1) tt) c.bits-b.result c.bits-b.ensures c.if-e-lt1023.false c.if-e-gt1057.false c.rounded-part.result c.rounded-part.ensures c.if-seconds-gt18446744073.false c.if-part-full.false
+    c.saturating_add.ensures
+    ∙ in_all c.args.dt (subst T (sym c.well_formed.0.1) tt) c.bits-b.result c.bits-b.ensures c.if-e-lt1023.false c.if-e-gt1057.false c.rounded-part.result c.rounded-part.ensures

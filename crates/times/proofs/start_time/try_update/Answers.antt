@@ -1,13 +1,13 @@
--- `try_update` meets its contract: it joins the faults of dt and of the start time, and answers the number of the first
--- fault or what `update` gives. Assumes nothing.
+-- `try_update` meets its contract: it joins the faults of dt and of the start time, and answers the refusal of the
+-- first fault or what `update` gives. Assumes nothing.
 use Rattle.times.specs.Starts.{try_update_of}
-use Rattle.judge.proofs.Judged.{joined, refuses, gives}
+use Rattle.judge.proofs.Judged.{joined, passed_up, goes_on}
 use Rattle.times.proofs.start_time.try_update.Goals as goal
 
-pub returns-then-n-ne0 : goal.returns-then-n-ne0
+pub returns-in_err-accept : goal.returns-in_err-accept
 unfolding try_update_of
-returns-then-n-ne0 c = refuses _ _ c.first_fault-n.ensures (joined _ _ c.both.ensures c.dt_faults.ensures c.start_faults.ensures) c.if-n-ne0.true
+returns-in_err-accept c = passed_up _ (joined _ _ c.and.ensures c.dt_faults.ensures c.start_faults.ensures) _ _ _ c.in_err-accept.ensures c.from_residual.ensures
 
 pub returns : goal.returns
 unfolding try_update_of
-returns c = gives _ c.first_fault-n.ensures (joined _ _ c.both.ensures c.dt_faults.ensures c.start_faults.ensures) c.if-n-ne0.false c.update.ensures
+returns c = goes_on _ (joined _ _ c.and.ensures c.dt_faults.ensures c.start_faults.ensures) c.in_ok-accept.ensures c.update.ensures

@@ -1,5 +1,5 @@
--- `power` meets its contract: at the loop's head p is the product of i factors, with i in 1..n, and a turn makes it
--- that of i + 1. The measure is n - i. Assumes nothing.
+-- `power` meets its contract: at the loop's head p is the product of as many factors as are counted, and a turn makes
+-- it that of one more. Assumes nothing.
 use Prim.Native.Nat.{ℕ, zero, suc, ◌+◌, ◌≤◌}
 use mathlib.Core.Path.{◌≡◌, refl}
 use native.Mathlib.Numerals.{add-one}
@@ -18,14 +18,9 @@ pub returns-then-n-eq0 : goal.returns-then-n-eq0
 unfolding power_of of_bits
 returns-then-n-eq0 c = rw c.if-n-eq0.true
 
-pub loop-i-init : goal.loop-i-init
+pub loop-init : goal.loop-init
 unfolding power_of
-loop-i-init c = (omega arith, omega arith, refl)
+loop-init c = refl
 
-pub loop-i-preserved : goal.loop-i-preserved
-loop-i-preserved c = (omega arith, omega arith, rw (c.loop-i.invariant.2, more c.args.x c.loop-i.i (omega arith)))
-
-pub returns : goal.returns
-returns c =
-    let end : c.loop-i.i ≡ c.args.n = omega arith in
-    rw (c.loop-i.invariant.2, end)
+pub loop-preserved : goal.loop-preserved
+loop-preserved c = rw (c.loop.invariant, more c.args.x c.loop.counter c.loop.auto.counter)

@@ -1,8 +1,0 @@
--- `count::cases::commands` is safe and ends: each turn leaves one command less. Assumes nothing.
-use Rattle.count.proofs.cases.commands.Given as goal
-
-abbrev pub invariant-loop-left : goal.invariant-loop-left
-invariant-loop-left l = Unit {0}
-
-abbrev pub decreases-loop-left : goal.decreases-loop-left
-decreases-loop-left l = l.left

@@ -1,8 +1,0 @@
--- `count::cases::updates` is safe and ends: each turn leaves one update less. Assumes nothing.
-use Rattle.count.proofs.cases.updates.Given as goal
-
-abbrev pub invariant-loop-left : goal.invariant-loop-left
-invariant-loop-left l = Unit {0}
-
-abbrev pub decreases-loop-left : goal.decreases-loop-left
-decreases-loop-left l = l.left

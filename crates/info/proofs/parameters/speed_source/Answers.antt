@@ -1,8 +1,0 @@
--- `speed_source` meets its contract: each arm asks `speed_input` of the value that its state names. Assumes nothing.
-use Rattle.info.proofs.parameters.speed_source.Goals as goal
-
-pub returns-in-Idle : goal.returns-in-Idle
-returns-in-Idle c = rw c.in-Idle.is c.speed_input.ensures
-
-pub returns-in-Tweening : goal.returns-in-Tweening
-returns-in-Tweening c = rw c.in-Tweening.is c.speed_input-in-Tweening.ensures
