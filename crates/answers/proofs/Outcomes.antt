@@ -20,6 +20,8 @@ use Rattle.answers.proofs.float_map.Reads as float-map
 use Rattle.answers.proofs.float_map.Kinds as float-map-kinds
 use Rattle.answers.proofs.float_value.Reads as float_value
 use Rattle.answers.proofs.float_value.Kinds as float-value-kinds
+use Rattle.answers.proofs.refused_by.Reads as refused-by
+use Rattle.answers.proofs.refused_by.Kinds as refused-by-kinds
 use Rattle.answers.proofs.refused.Reads as refused
 use Rattle.answers.proofs.refused.Kinds as refused-kinds
 use Rattle.answers.proofs.F64Shown.show.Reads as show-float
@@ -55,6 +57,9 @@ one_float_map κs a x y s t = same
 
 pub one_float_value : Same 2 float-value-kinds.ps float-value-kinds.r float_value.Post (λ κs s. s.0.now)
 one_float_value κs a x y s t = same
+
+pub one_refused_by : Same 2 refused-by-kinds.ps refused-by-kinds.r refused-by.Post (λ κs s. s.0.now)
+one_refused_by κs a x y s t = same
 
 pub one_refused : Same 2 refused-kinds.ps refused-kinds.r refused.Post (λ κs s. s.0.now)
 one_refused κs a x y s t = same

@@ -1,5 +1,6 @@
 // Answers as text: each function puts the text of a thing into a buffer that the caller lends. No function has a
-// `requires`.
+// `requires`. No `Display`: each statement (`put_in`) says what comes of every piece in a buffer that is too short for
+// the text, and what may not change is that a piece which does not fit is left out.
 #![tactic(auto)]
 
 ghost use Rattle.std.specs.Prelude.{◌≡◌, List, ℕ};
@@ -141,12 +142,20 @@ pub fn float_value(out: &mut Out, v: Value<f64>)
     }
 }
 
+// A whole answer: a refusal by its number. A number and no `Refusal`, since what may not change is that any number has
+// its text.
+pub fn refused_by(out: &mut Out, n: u32)
+    ensures { out.new ≡ put_in out.old (line_of (refused_text n)) }
+{
+    out.counted(b"refused ", u64::from(n));
+    out.end();
+}
+
 // A whole answer: a refusal.
 pub fn refused(out: &mut Out, r: Refusal)
     ensures { out.new ≡ put_in out.old (line_of (refused_text (number_of_refusal r))) }
 {
-    out.counted(b"refused ", u32::from(r) as u64);
-    out.end();
+    refused_by(out, u32::from(r));
 }
 
 // A whole answer: a value, or a refusal.

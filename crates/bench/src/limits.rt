@@ -12,7 +12,8 @@ use text::words::Words;
 use ticks::Position;
 use times::time::{ClockTime, clock_time_faults};
 
-// Puts a clock that lives at a time, started, unless the time is refused.
+// Puts a clock that lives at a time, started, unless the time is refused. Keys and clocks are lent apart, since a proof
+// knows how long arrays are that are lent by themselves.
 #[tactic(auto, using(ids::proofs::Places::found_inside))]
 fn start_at(keys: &[Key; 16], clocks: &mut [Clock; 16], t: ClockTime) -> Result<(), Refusal> {
     let i = find(keys, t.clock.slot, t.clock.generation)?;

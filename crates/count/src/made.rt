@@ -124,6 +124,7 @@ fn ticking(speed: Value<ClockSpeed>) -> Clock {
 // Sixteen clocks that tick: 8 with a fixed speed, 4 linked, 4 with a speed under way to another.
 pub fn clocks() -> Clocks {
     let mut table = living([ticking(speed(0)); 16]);
+    // By the slot's number, since a speed and a modulator are made of it.
     for i in 1..16 {
         table.clocks[i as usize] = ticking(speed(i));
     }

@@ -70,7 +70,8 @@ impl<'a> Out<'a> {
         self.put(&digits[..count]);
     }
 
-    // A word in front of a number.
+    // A word in front of a number. Three methods of two lines each: one over a trait would need an impl for each, and
+    // be no plainer.
     pub fn counted(&mut self, name: &[u8], n: u64)
         ensures { self.new ≡ put_in self.old (name.now ∷ number_text n ∷ []) }
     {

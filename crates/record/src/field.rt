@@ -15,9 +15,10 @@ pub fn decimal_behind(line: &[u8], name: &[u8], most: u32) -> Option<u32>
     ensures { result ≡ decimal_behind most name.now line.now }
 {
     let v = text::decimal(line.strip_prefix(name)?)?;
-    if v > most as u64 {
+    if v > u64::from(most) {
         return None;
     }
+    // No `try_from`: what is asked is `most`, and then the number fits.
     Some(v as u32)
 }
 

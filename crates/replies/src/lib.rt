@@ -92,7 +92,7 @@ pub fn frame(out: &mut Out, keys: &[Key; 16], reports: &[Option<u64>; 16])
     ensures { out.new ≡ put_in out.old (line_of (frame_text keys.now reports.now)) }
 {
     out.put(b"frame");
-    // By the slot's number into the reports, as `reports` of the crate `report` goes into the clocks.
+    // By the slot's number into the reports: a pair of each key and report would be numbered too, and be no plainer.
     for (slot, k) in keys.iter().enumerate() {
         if k.used {
             tick(out, slot, reports[slot]);

@@ -14,7 +14,8 @@ use judge::{Refusal, dt_faults};
 use modulator_table::Slot;
 
 // Each modulator's turn. What is seen has its new value before the next turn; each turn reads it whole, so the loop
-// goes by the slot and not by an iterator over the values, and so does the clocks'.
+// goes by the slot and not by an iterator over the values, and so does the clocks'. Keys and entries are lent apart, so
+// that an entry can change while the keys are read.
 fn turn_modulators(keys: &[Key; 16], slots: &mut [Slot; 16], info: &mut Info, dt: f64)
     requires { info.old.values ≡ map slot_value slots.old }
     ensures slots_turned { slots.new ≡ slots_turned info.old dt keys.now slots.old }

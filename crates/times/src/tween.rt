@@ -66,6 +66,7 @@ fn bad_power(n: u32) -> bool
     (n < 1) | (n > 16)
 }
 
+// A flag by cases, and no plainer as one `matches!`: `bad_power` asks the three powers.
 pub fn ease_faults(e: Easing) -> Faults
     ensures { result ≡ ease_faults e }
 {

@@ -46,14 +46,14 @@ fn cmp(mut words: Words<'_>, out: &mut Out) -> Option<()> {
     let a = grammar::clock_time(&mut words)?;
     let b = grammar::clock_time(&mut words)?;
     grammar::end(&words)?;
-    let n = match try_partial_cmp(a, b) {
+    match try_partial_cmp(a, b) {
         Ok(Some(Ordering::Less)) => out.put(b"lt\n"),
         Ok(Some(Ordering::Equal)) => out.put(b"eq\n"),
         Ok(Some(Ordering::Greater)) => out.put(b"gt\n"),
         Ok(None) => out.put(b"none\n"),
         Err(r) => answers::refused(out, r),
-    };
-    Some(n)
+    }
+    Some(())
 }
 
 pub fn call(words: Words<'_>, call: TimeCall, out: &mut Out) -> Option<()> {

@@ -28,6 +28,7 @@ fn operation(mut words: Words<'_>, call: OutputCall) -> Option<Op> {
     Some(op)
 }
 
+// A mapping's and a value's call differ in the entry, and a generic one would be no plainer than the two.
 pub fn map_op(mut words: Words<'_>, call: OutputCall, out: &mut Out) -> Option<()> {
     let m = grammar::mapping::<f64>(&mut words)?;
     let op = operation(words, call)?;
