@@ -1,2 +1,3 @@
--- `Outcomes` on the statements themselves.
+-- `Outcomes` on the statements themselves; `Told` on what a result says.
 pub mod Outcomes
+pub mod Told

@@ -4,7 +4,9 @@ use denote.RattleType.{RattleType}
 use denote.Param.Laws.{Laws, IsCopy}
 use mir.Syntax.{Dict}
 use Rattle.std.specs.declared.clone.Clone
+use Rattle.doubles.proofs.Outcomes.{One, equal}
 use Rattle.digits.proofs.Outcomes.{Same, same}
+use Rattle.answers.specs.declared.Numbered
 use Rattle.answers.specs.declared.Shown
 use Rattle.answers.proofs.speed.Reads as speed
 use Rattle.answers.proofs.speed.Kinds as speed-kinds
@@ -24,6 +26,10 @@ use Rattle.answers.proofs.refused_by.Reads as refused-by
 use Rattle.answers.proofs.refused_by.Kinds as refused-by-kinds
 use Rattle.answers.proofs.refused.Reads as refused
 use Rattle.answers.proofs.refused.Kinds as refused-kinds
+use Rattle.answers.proofs.RefusalNumbered.number.Reads as number-of-refusal
+use Rattle.answers.proofs.RefusalNumbered.number.Kinds as number-of-refusal-kinds
+use Rattle.answers.proofs.U32Numbered.number.Reads as number-of-number
+use Rattle.answers.proofs.U32Numbered.number.Kinds as number-of-number-kinds
 use Rattle.answers.proofs.F64Shown.show.Reads as show-float
 use Rattle.answers.proofs.F64Shown.show.Kinds as show-float-kinds
 use Rattle.answers.proofs.ClockSpeedShown.show.Reads as show-speed
@@ -61,8 +67,17 @@ one_float_value κs a x y s t = same
 pub one_refused_by : Same 2 refused-by-kinds.ps refused-by-kinds.r refused-by.Post (λ κs s. s.0.now)
 one_refused_by κs a x y s t = same
 
-pub one_refused : Same 2 refused-kinds.ps refused-kinds.r refused.Post (λ κs s. s.0.now)
-one_refused κs a x y s t = same
+pub one_number_of_refusal : One 0 number-of-refusal-kinds.ps number-of-refusal-kinds.r number-of-refusal.Post
+one_number_of_refusal κs a x y s t = equal
+
+pub one_number_of_number : One 0 number-of-number-kinds.ps number-of-number-kinds.r number-of-number.Post
+one_number_of_number κs a x y s t = equal
+
+-- of each kind of refusal that has a number
+pub one_refused :
+    (R : RattleType) (L : Laws R) (C : IsCopy R) (k : Numbered.Ghosts R.Denot) (d : Dict) (c : Clone.Ghosts R.Denot) (e : Dict)
+    → Same 3 (refused-kinds.ps R L C) (refused-kinds.r R L C) (refused.Post R L C k d c e) (λ κs s. s.0.now)
+one_refused R L C k d c e κs a x y s t = same
 
 pub one_show_float : Same 2 show-float-kinds.ps show-float-kinds.r show-float.Post (λ κs s. s.1.0.now)
 one_show_float κs a x y s t = same
@@ -79,8 +94,9 @@ one_show_float_map κs a x y s t = same
 pub one_show_float_value : Same 2 show-float-value-kinds.ps show-float-value-kinds.r show-float-value.Post (λ κs s. s.1.0.now)
 one_show_float_value κs a x y s t = same
 
--- of each kind of value that has a text
+-- of each kind of value that has a text, and each kind of refusal
 pub one_reply :
-    (T : RattleType) (L : Laws T) (C : IsCopy T) (k : Shown.Ghosts T.Denot) (d : Dict) (c : Clone.Ghosts T.Denot) (e : Dict)
-    → Same 3 (reply-kinds.ps T L C) (reply-kinds.r T L C) (reply.Post T L C k d c e) (λ κs s. s.0.now)
-one_reply T L C k d c e κs a x y s t = same
+    (T R : RattleType) (L : Laws T) (M : Laws R) (C : IsCopy T) (D : IsCopy R) (k : Shown.Ghosts T.Denot) (d : Dict) (c : Clone.Ghosts T.Denot) (e : Dict)
+    (l : Numbered.Ghosts R.Denot) (f : Dict) (b : Clone.Ghosts R.Denot) (g : Dict)
+    → Same 4 (reply-kinds.ps T R L M C D) (reply-kinds.r T R L M C D) (reply.Post T R L M C D k d c e l f b g) (λ κs s. s.0.now)
+one_reply T R L M C D k d c e l f b g κs a x y s t = same

@@ -1,5 +1,5 @@
 -- Answers as docs/BENCH.md writes them: the pieces of each text. Assumes nothing.
-use Rattle.std.specs.Prelude.{ℕ, List, [], ◌∷◌, ◌++◌, Float}
+use Rattle.std.specs.Prelude.{ℕ, List, [], ◌∷◌, ◌++◌, Float, Result, Ok, Err}
 use Rattle.digits.specs.Digits.{number_text, float_text}
 use Rattle.values.specs.declared.clock_speed.ClockSpeed.{ClockSpeed}
 use Rattle.values.specs.declared.clock_speed.ClockSpeed.TheVariants.{SecondsPerTick, TicksPerSecond, TicksPerMinute}
@@ -120,3 +120,12 @@ refused_text n = refused_word ∷ number_text n ∷ []
 abbrev pub reply_text : {A : Type 0} → (A → List (List ℕ)) → Answer A → List (List ℕ)
 reply_text text (accepted x) = text x
 reply_text text (refused n) = refused_text n
+
+-- what a result says, by the number of what refuses it: `told` of the crate `judge` for any kind of refusal
+abbrev pub told_by : {A R : Type 0} → (R → ℕ) → Result A R → Answer A
+told_by number (Ok x) = accepted x
+told_by number (Err r) = refused (number r)
+
+-- the number of a number
+abbrev pub itself : ℕ → ℕ
+itself n = n

@@ -4,8 +4,8 @@
 #![tactic(auto)]
 
 ghost use Rattle.std.specs.Prelude.{◌≡◌, List, ℕ};
-ghost use Rattle.judge.specs.Answer.{told, number_of_refusal};
-ghost use Rattle.answers.specs.Answers.{float_pieces, speed_text, ease_text, time_text, id_text, start_text, float_map_text, float_value_text, refused_text, reply_text};
+ghost use Rattle.judge.specs.Answer.{number_of_refusal};
+ghost use Rattle.answers.specs.Answers.{float_pieces, speed_text, ease_text, time_text, id_text, start_text, float_map_text, float_value_text, refused_text, reply_text, itself, told_by};
 ghost use Rattle.digits.specs.Outs.{put_in};
 ghost use Rattle.digits.specs.Puts.{line_of};
 
@@ -62,6 +62,30 @@ impl Shown for Value<f64> {
 
     fn show(self, out: &mut Out) {
         float_value(out, self);
+    }
+}
+
+// What refuses a call, by its number: a `Refusal`, or any number, since each has its text.
+pub trait Numbered: Copy {
+    ghost number: { Self → ℕ };
+
+    fn number(self) -> u32
+        ensures { result ≡ number self };
+}
+
+impl Numbered for Refusal {
+    ghost number = { number_of_refusal };
+
+    fn number(self) -> u32 {
+        u32::from(self)
+    }
+}
+
+impl Numbered for u32 {
+    ghost number = { itself };
+
+    fn number(self) -> u32 {
+        self
     }
 }
 
@@ -142,8 +166,7 @@ pub fn float_value(out: &mut Out, v: Value<f64>)
     }
 }
 
-// A whole answer: a refusal by its number. A number and no `Refusal`, since what may not change is that any number has
-// its text.
+// A whole answer: a refusal by its number, whichever it is, since each has its text.
 pub fn refused_by(out: &mut Out, n: u32)
     ensures { out.new ≡ put_in out.old (line_of (refused_text n)) }
 {
@@ -152,15 +175,15 @@ pub fn refused_by(out: &mut Out, n: u32)
 }
 
 // A whole answer: a refusal.
-pub fn refused(out: &mut Out, r: Refusal)
-    ensures { out.new ≡ put_in out.old (line_of (refused_text (number_of_refusal r))) }
+pub fn refused<R: Numbered>(out: &mut Out, r: R)
+    ensures { out.new ≡ put_in out.old (line_of (refused_text (R.number r))) }
 {
-    refused_by(out, u32::from(r));
+    refused_by(out, r.number());
 }
 
 // A whole answer: a value, or a refusal.
-pub fn reply<T: Shown>(out: &mut Out, r: Result<T, Refusal>)
-    ensures { out.new ≡ put_in out.old (line_of (reply_text T.text (told r))) }
+pub fn reply<T: Shown, R: Numbered>(out: &mut Out, r: Result<T, R>)
+    ensures { out.new ≡ put_in out.old (line_of (reply_text T.text (told_by R.number r))) }
 {
     match r {
         Ok(x) => {

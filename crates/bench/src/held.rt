@@ -27,23 +27,25 @@ impl Held {
     }
 }
 
-// A fresh station, and every parameter forgotten; a call only where nothing is behind it.
+// A fresh station, and every parameter forgotten; a call only where nothing is behind it. Each part is made anew where
+// it lies: all of them at once would be made beside it and copied.
 fn renew(words: Words<'_>, out: &mut Out, held: &mut Held) -> Option<()> {
     grammar::end(&words)?;
-    *held = Held::new();
+    held.station = Station::new();
+    held.floats = [None; 16];
+    held.speeds = [None; 16];
     replies::ok(out);
     Some(())
 }
 
-// Puts the answer; None where the line is no call.
-pub fn call(line: &[u8], out: &mut Out, held: &mut Held) -> Option<()> {
-    let mut words = Words::new(line);
-    match call_of(words.next())? {
+// Puts the answer to a line's name and the words behind it; None where the line is no call.
+pub fn call(name: &[u8], words: Words<'_>, out: &mut Out, held: &mut Held) -> Option<()> {
+    match call_of(name)? {
         Call::New => renew(words, out, held),
         Call::FloatParameter(c) => holds::on(words, c, out, &mut held.floats, &held.station),
         Call::SpeedParameter(c) => holds::on(words, c, out, &mut held.speeds, &held.station),
         Call::Limit(c) => limits::on(words, c, out, &mut held.station),
-        Call::Question(c) => questions::call(words, c, out, &held.station.info()),
+        Call::Question(c) => questions::call(words, c, out, &held.station),
         Call::Report => questions::report(words, out, &held.station.clocks),
         Call::Double(c) => floats::call(words, c, out),
         Call::Curve(c) => curves::call(words, c, out),

@@ -18,24 +18,22 @@ use std::io::Stdin;
 use text::Word;
 use text::words::Words;
 
-// Answers a line, and says whether that was written. Where the line is no call, it is answered `error`.
+// Answers a line, and says whether that was written. A line that has no word, or whose first byte is a `#`, is skipped.
+// Where it is no call, it is answered `error`.
 fn answer(line: &[u8], out: &mut [u8], held: &mut Held) -> bool {
-    if skipped(line) {
+    let mut words = Words::new(line);
+    let name = words.next();
+    if name.is_empty() || line.starts_with(b"#") {
         return true;
     }
     let mut text = Out::new(out);
-    match held::call(line, &mut text, held) {
+    match held::call(name, words, &mut text, held) {
         Some(()) => {
             let n = text.place();
             write(out, n)
         }
         None => error(),
     }
-}
-
-// Whether a line is skipped: it has no word, or its first byte is a `#`.
-fn skipped(line: &[u8]) -> bool {
-    grammar::ended(&Words::new(line)) || line.starts_with(b"#")
 }
 
 // Writes the first bytes of a buffer. They are never more than it has; the test is for the proof.

@@ -4,17 +4,18 @@ use answers::Shown;
 use clock_table::Clocks;
 use digits::Out;
 use grammar::Spelled;
-use info::info::Info;
+use judge::Refusal;
 use names::QuestionCall;
+use station::Station;
 use text::words::Words;
 use times::start_time::When;
 use times::time::ClockId;
 use values::clock_speed::ClockSpeed;
 
-fn due(mut words: Words<'_>, out: &mut Out, info: &Info) -> Option<()> {
+fn due(mut words: Words<'_>, out: &mut Out, st: &Station) -> Option<()> {
     let t = grammar::clock_time(&mut words)?;
     grammar::end(&words)?;
-    match info.try_when_to_start(t) {
+    match st.info().try_when_to_start(t) {
         Ok(When::Now) => out.put(b"now\n"),
         Ok(When::Later) => out.put(b"later\n"),
         Ok(When::Never) => out.put(b"never\n"),
@@ -23,22 +24,22 @@ fn due(mut words: Words<'_>, out: &mut Out, info: &Info) -> Option<()> {
     Some(())
 }
 
-fn raw<T: Spelled + Shown>(mut words: Words<'_>, out: &mut Out, info: &Info) -> Option<()> {
+fn raw<T: Spelled + Shown>(mut words: Words<'_>, out: &mut Out, st: &Station) -> Option<()> {
     let v = grammar::value::<T>(&mut words)?;
     grammar::end(&words)?;
-    match info.try_raw(v) {
-        Ok(Some(x)) => answers::reply(out, Ok(x)),
+    match st.info().try_raw(v) {
+        Ok(Some(x)) => answers::reply(out, Ok::<T, Refusal>(x)),
         Ok(None) => out.put(b"none\n"),
         Err(r) => answers::refused(out, r),
     }
     Some(())
 }
 
-fn start(mut words: Words<'_>, out: &mut Out, info: &Info) -> Option<()> {
+fn start(mut words: Words<'_>, out: &mut Out, st: &Station) -> Option<()> {
     let s = grammar::start(&mut words)?;
     let dt = grammar::float(&mut words)?;
     grammar::end(&words)?;
-    match info.try_update_start(s, dt) {
+    match st.info().try_update_start(s, dt) {
         Ok(w) => {
             out.flag(w.never);
             out.put(b" ");
@@ -50,12 +51,12 @@ fn start(mut words: Words<'_>, out: &mut Out, info: &Info) -> Option<()> {
     Some(())
 }
 
-pub fn call(words: Words<'_>, call: QuestionCall, out: &mut Out, info: &Info) -> Option<()> {
+pub fn call(words: Words<'_>, call: QuestionCall, out: &mut Out, st: &Station) -> Option<()> {
     match call {
-        QuestionCall::When => due(words, out, info),
-        QuestionCall::ValRaw => raw::<f64>(words, out, info),
-        QuestionCall::SvalRaw => raw::<ClockSpeed>(words, out, info),
-        QuestionCall::StartUp => start(words, out, info),
+        QuestionCall::When => due(words, out, st),
+        QuestionCall::ValRaw => raw::<f64>(words, out, st),
+        QuestionCall::SvalRaw => raw::<ClockSpeed>(words, out, st),
+        QuestionCall::StartUp => start(words, out, st),
     }
 }
 

@@ -16,12 +16,12 @@ pub struct Reading {
     pub ended: bool,
 }
 
-// One byte more of a line. Bytes past the longest line are not kept.
-fn push(line: &mut [u8], count: Result<usize, TooLong>, b: u8) -> Result<usize, TooLong> {
+// More bytes of a line. Where they pass the longest line, none of them is kept.
+fn keep(line: &mut [u8], count: Result<usize, TooLong>, bytes: &[u8]) -> Result<usize, TooLong> {
     let n = count?;
-    let place = line.get_mut(n).ok_or(TooLong)?;
-    *place = b;
-    Ok(n + 1)
+    let to = n.checked_add(bytes.len()).ok_or(TooLong)?;
+    line.get_mut(n..to).ok_or(TooLong)?.copy_from_slice(bytes);
+    Ok(to)
 }
 
 impl Reading {
@@ -56,16 +56,19 @@ impl Reading {
 
     // Takes the portion's bytes up to a line's end. The portion has as many as were read; the `?` is for the proof.
     fn take(&mut self, line: &mut [u8], portion: &[u8]) -> Option<Result<usize, TooLong>> {
-        // No `for`: the next call goes on in the portion where this one stops.
-        while self.at < self.to {
-            let b = *portion.get(self.at)?;
-            self.at += 1;
-            if b == b'\n' {
-                return self.whole();
+        let rest = portion.get(self.at..self.to)?;
+        match rest.iter().position(|&b| b == b'\n') {
+            Some(n) => {
+                self.at += n + 1;
+                self.count = keep(line, self.count, &rest[..n]);
+                self.whole()
             }
-            self.count = push(line, self.count, b);
+            None => {
+                self.at = self.to;
+                self.count = keep(line, self.count, rest);
+                None
+            }
         }
-        None
     }
 
     // Goes on to the next line's end, or the portion's, and gives the length of a line that is whole. Reads where the

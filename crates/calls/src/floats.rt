@@ -3,6 +3,7 @@ ghost use Rattle.std.specs.Prelude.{◌≡◌};
 ghost use Rattle.calls.specs.Calls.{answered, double_of, floats_of};
 
 use digits::Out;
+use judge::Refusal;
 use names::DoubleCall;
 use text::words::Words;
 
@@ -24,6 +25,6 @@ pub fn call(mut words: Words<'_>, call: DoubleCall, out: &mut Out) -> Option<()>
 {
     let x = grammar::float(&mut words)?;
     grammar::end(&words)?;
-    answers::reply(out, Ok(double(call, x)));
+    answers::reply(out, Ok::<f64, Refusal>(double(call, x)));
     Some(())
 }

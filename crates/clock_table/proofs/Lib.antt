@@ -3,3 +3,4 @@
 pub mod Slots
 pub mod Outcomes
 pub mod Lookups
+pub mod Looked

@@ -122,27 +122,24 @@ impl Clocks {
         self.clocks[i].speed.try_set(target, tween)
     }
 
-    #[tactic(auto, using(crate::proofs::Lookups::found), unfolding(crate::specs::ClockTables::clock_time_of))]
     pub fn time(&self, id: ClockId) -> Result<ClockTime, Refusal>
         ensures { told result ≡ clock_time_of self.now id }
     {
-        let i = find(&self.keys, id.slot, id.generation)?;
-        Ok(time_of(id, &self.clocks[i]))
+        let (_, c) = self.look(id)?;
+        Ok(time_of(id, &c))
     }
 
-    #[tactic(auto, using(crate::proofs::Lookups::found), unfolding(crate::specs::ClockTables::clock_ticking_of))]
     pub fn ticking(&self, id: ClockId) -> Result<bool, Refusal>
         ensures { told result ≡ clock_ticking_of self.now id }
     {
-        let i = find(&self.keys, id.slot, id.generation)?;
-        Ok(self.clocks[i].ticking)
+        let (_, c) = self.look(id)?;
+        Ok(c.ticking)
     }
 
-    #[tactic(auto, using(crate::proofs::Lookups::found), unfolding(crate::specs::ClockTables::clock_speed_of))]
     pub fn speed(&self, id: ClockId) -> Result<ClockSpeed, Refusal>
         ensures { told result ≡ clock_speed_of self.now id }
     {
-        let i = find(&self.keys, id.slot, id.generation)?;
-        Ok(self.clocks[i].speed.raw)
+        let (_, c) = self.look(id)?;
+        Ok(c.speed.raw)
     }
 }

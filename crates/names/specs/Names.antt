@@ -1,5 +1,5 @@
 -- The names of the calls of docs/BENCH.md, each by its bytes, and the call that each is. Assumes nothing.
-use Rattle.std.specs.Prelude.{ℕ, cond, List, [], ◌∷◌, ◌++◌, Option, None, Some}
+use Rattle.std.specs.Prelude.{ℕ, cond, List, [], ◌∷◌, ◌++◌, Option, None, Some, slice_range, ◌≡◌}
 use Rattle.text.specs.Words.{same_bytes}
 use Rattle.names.specs.declared.Call.{Call}
 use Rattle.names.specs.declared.Call.TheVariants as call
@@ -434,3 +434,7 @@ call_in w (r ∷ rs) = row_of w r.name r.call (call_in w rs)
 
 unfoldable pub call_of : List ℕ → Option Call
 call_of w = call_in w rows
+
+-- the rows from one place up to another are enough for each word that begins with a byte
+pub record Enough (first from to : ℕ) : Type 0 where
+  pub answers : (w : List ℕ) → call_in (first ∷ w) (slice_range rows from to) ≡ call_of (first ∷ w)

@@ -1,9 +1,9 @@
 // The names of the calls of docs/BENCH.md, and the call that each is: one table, a row for each name. A new call is
-// one row here, and one in specs/Names.antt.
+// one row here, beside those of its first letter, and one in specs/Names.antt; `together` counts it.
 #![tactic(auto)]
 
-ghost use Rattle.std.specs.Prelude.{◌≡◌};
-ghost use Rattle.names.specs.Names.{call_of};
+ghost use Rattle.std.specs.Prelude.{◌≡◌, ◌≤◌};
+ghost use Rattle.names.specs.Names.{Enough, call_of};
 
 // The calls on one clock, by its id alone.
 #[derive(Clone, Copy)]
@@ -208,10 +208,34 @@ const CALLS: [(&[u8], Call); 72] = [
     (b"when", Call::Question(QuestionCall::When)),
 ];
 
+// Where the rows of the names that begin with a byte stand in the table, from a place up to another. They stand
+// together, so a word is compared with those of its first letter alone. Where no name begins so, no row is left.
+fn together(first: u8) -> (usize, usize)
+    ensures in_order { result.0 ≤ result.1 }
+    ensures within { result.1 ≤ 72 }
+    ensures enough { Enough first result.0 result.1 }
+{
+    match first {
+        b'c' => (0, 12),
+        b'd' => (12, 13),
+        b'e' => (13, 14),
+        b'f' => (14, 24),
+        b'l' => (24, 31),
+        b'm' => (31, 42),
+        b'n' => (42, 43),
+        b's' => (43, 53),
+        b't' => (53, 63),
+        b'v' => (63, 70),
+        b'w' => (70, 72),
+        _ => (0, 0),
+    }
+}
+
 // The call that a word names; none where it names none.
 pub fn call_of(word: &[u8]) -> Option<Call>
     ensures { result ≡ call_of word.now }
 {
-    let row = CALLS.iter().find(|row| word == row.0)?;
+    let (from, to) = together(*word.first()?);
+    let row = CALLS[from..to].iter().find(|row| word == row.0)?;
     Some(row.1)
 }

@@ -1,6 +1,11 @@
 -- Any two outcomes that a statement allows coincide, the result and the `Out`: `Same` of the crate `doubles` says it of
 -- the very clause that the check reads off the source (`Reads.Post`). RULES, one-outcome. Assumes nothing.
 use mathlib.Core.Path.{refl, sym, ◌∙◌}
+use denote.RattleType.{RattleType}
+use denote.Param.Laws.{Laws, IsCopy}
+use mir.Syntax.{Dict}
+use Rattle.std.specs.declared.clone.Clone
+use Rattle.answers.specs.declared.Numbered
 use Rattle.digits.proofs.Outcomes.{Same, same}
 use Rattle.replies.proofs.ok.Reads as ok
 use Rattle.replies.proofs.ok.Kinds as ok-kinds
@@ -21,8 +26,11 @@ one_ok κs a x y s t = same
 pub one_done : Same 2 done-kinds.ps done-kinds.r done.Post (λ κs s. s.0.now)
 one_done κs a x y s t = same
 
-pub one_answer : Same 2 answer-kinds.ps answer-kinds.r answer.Post (λ κs s. s.0.now)
-one_answer κs a x y s t = same
+-- of each kind of refusal that has a number, and so the report's
+pub one_answer :
+    (R : RattleType) (L : Laws R) (C : IsCopy R) (k : Numbered.Ghosts R.Denot) (d : Dict) (c : Clone.Ghosts R.Denot) (e : Dict)
+    → Same 3 (answer-kinds.ps R L C) (answer-kinds.r R L C) (answer.Post R L C k d c e) (λ κs s. s.0.now)
+one_answer R L C k d c e κs a x y s t = same
 
 pub one_frame : Same 4 frame-kinds.ps frame-kinds.r frame.Post (λ κs s. s.0.now)
 one_frame κs a x y s t = same
@@ -31,5 +39,7 @@ one_frame κs a x y s t = same
 pub one_show : Same 1 show-kinds.ps show-kinds.r show.Post (λ κs s. s.0.now)
 one_show κs a x y s t e f = (refl, e ∙ sym f)
 
-pub one_report : Same 3 report-kinds.ps report-kinds.r report.Post (λ κs s. s.0.now)
-one_report κs a x y s t = same
+pub one_report :
+    (R : RattleType) (L : Laws R) (C : IsCopy R) (k : Numbered.Ghosts R.Denot) (d : Dict) (c : Clone.Ghosts R.Denot) (e : Dict)
+    → Same 4 (report-kinds.ps R L C) (report-kinds.r R L C) (report.Post R L C k d c e) (λ κs s. s.0.now)
+one_report R L C k d c e κs a x y s t = same

@@ -1,9 +1,9 @@
 -- The station's answers, as docs/BENCH.md has them: the pieces of each answer's text. Assumes nothing.
 use Rattle.std.specs.Prelude.{ℕ, ◌+◌, cond, List, [], ◌∷◌, ◌++◌, eqb, Option, Some, None, Result, Ok, Err}
 use Rattle.ids.specs.declared.Key.{Key}
-use Rattle.judge.specs.Answer.{told, number_of_refusal}
+use Rattle.judge.specs.Answer.{told}
 use Rattle.judge.specs.declared.Refusal.{Refusal}
-use Rattle.answers.specs.Answers.{blank, id_text, speed_text, time_text, refused_text, reply_text}
+use Rattle.answers.specs.Answers.{blank, id_text, speed_text, time_text, refused_text, reply_text, told_by}
 use Rattle.digits.specs.Digits.{number_text, flag_text, float_text}
 use Rattle.commands.specs.declared.CallAnswer.{CallAnswer}
 use Rattle.commands.specs.declared.CallAnswer.TheVariants as answer
@@ -30,9 +30,9 @@ given_text (answer.Flag b) = flag_text b ∷ []
 given_text (answer.Speed s) = speed_text s
 given_text (answer.Value x) = float_text x ∷ []
 
--- that, or `refused N`
-abbrev pub answer_text : Result CallAnswer Refusal → List (List ℕ)
-answer_text r = reply_text given_text (told r)
+-- that, or `refused N`, by the number of what refuses it
+abbrev pub answer_text : {R : Type 0} → (R → ℕ) → Result CallAnswer R → List (List ℕ)
+answer_text number r = reply_text given_text (told_by number r)
 
 -- "=" and "-"
 abbrev pub equals_sign : List ℕ
@@ -65,6 +65,6 @@ abbrev pub shown_of : ℕ → ℕ
 shown_of b = cond (eqb b 0x0a) 0x3b b
 
 -- "the whole buffer", or "`refused N`, a blank, and the buffer as it is then"
-abbrev pub reported_text : Result ℕ Refusal → List ℕ → List (List ℕ)
-reported_text (Ok n) buffer = buffer ∷ []
-reported_text (Err r) buffer = refused_text (number_of_refusal r) ++ (blank ∷ buffer ∷ [])
+abbrev pub reported_text : {R : Type 0} → (R → ℕ) → Result ℕ R → List ℕ → List (List ℕ)
+reported_text number (Ok n) buffer = buffer ∷ []
+reported_text number (Err r) buffer = refused_text (number r) ++ (blank ∷ buffer ∷ [])

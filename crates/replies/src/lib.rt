@@ -6,6 +6,7 @@ ghost use Rattle.digits.specs.Outs.{put_in};
 ghost use Rattle.digits.specs.Puts.{line_of};
 ghost use Rattle.replies.specs.Replies.{ok_text, done_text, id_reply, given_text, answer_text, tick_text, frame_text, shown_of, reported_text};
 
+use answers::Numbered;
 use commands::CallAnswer;
 use digits::Out;
 use ids::Key;
@@ -66,8 +67,8 @@ fn given(out: &mut Out, told: CallAnswer)
 }
 
 // What a call on the station answers.
-pub fn answer(out: &mut Out, told: Result<CallAnswer, Refusal>)
-    ensures { out.new ≡ put_in out.old (line_of (answer_text told)) }
+pub fn answer<R: Numbered>(out: &mut Out, told: Result<CallAnswer, R>)
+    ensures { out.new ≡ put_in out.old (line_of (answer_text R.number told)) }
 {
     match told {
         Ok(a) => given(out, a),
@@ -118,11 +119,11 @@ pub fn show(text: &mut [u8])
 }
 
 // A report's answer: the buffer, behind the refusal where there is one.
-pub fn report(out: &mut Out, r: Result<usize, Refusal>, buffer: &[u8])
-    ensures { out.new ≡ put_in out.old (line_of (reported_text r buffer.now)) }
+pub fn report<R: Numbered>(out: &mut Out, r: Result<usize, R>, buffer: &[u8])
+    ensures { out.new ≡ put_in out.old (line_of (reported_text R.number r buffer.now)) }
 {
     if let Err(e) = r {
-        out.counted(b"refused ", u32::from(e) as u64);
+        out.counted(b"refused ", e.number() as u64);
         out.put(b" ");
     }
     out.put(buffer);

@@ -1,4 +1,4 @@
--- Laws that the functions' proofs and the crates above cite: `Filled` on what an array's `map` gives, `Outcomes` on the
+-- Laws that the functions' proofs and the crates above cite: `Filled` on an array that a loop fills, `Outcomes` on the
 -- statements themselves.
 pub mod Filled
 pub mod Outcomes

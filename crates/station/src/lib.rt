@@ -20,17 +20,31 @@ pub struct Station {
     pub modulators: Modulators,
 }
 
-// The clocks are lent to `map`, which takes its array by value: it would copy them all. So are the slots below.
+// By the slot's number, as the values below: `map` over the clocks that are lent cost an `Info` some 1,400 instructions
+// more.
 fn clock_infos(clocks: &[Clock; 16]) -> [ClockInfo; 16]
     ensures { result ≡ map info_of clocks.now }
 {
-    clocks.each_ref().map(|c| c.info())
+    let none = ClockInfo {
+        ticking: false,
+        ticks: 0,
+        fraction: 0.0,
+    };
+    let mut infos = [none; 16];
+    for i in 0..16 {
+        infos[i] = clocks[i].info();
+    }
+    infos
 }
 
 fn values_of(slots: &[Slot; 16]) -> [f64; 16]
     ensures { result ≡ map slot_value slots.now }
 {
-    slots.each_ref().map(|s| s.value())
+    let mut values = [0.0; 16];
+    for i in 0..16 {
+        values[i] = slots[i].value();
+    }
+    values
 }
 
 impl Station {

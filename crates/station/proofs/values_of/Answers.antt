@@ -1,13 +1,14 @@
--- `values_of` meets its contract: each value is what `Slot::value` gives. Assumes nothing.
+-- `values_of` meets its contract: the loop fills in what `Slot::value` gives of each slot. Assumes nothing.
 use native.Mathlib.Omega.{arith}
-use Rattle.std.proofs.Common.{rules}
-use Rattle.doubles.specs.Doubles.{zero_f}
-use Rattle.modulator.specs.Tweeners.{new_tweener}
-use Rattle.modulator_table.specs.declared.Modulator.TheVariants.{OfTweener}
-use Rattle.modulator_table.specs.ModulatorTables.{slot_of, slot_value}
-use Rattle.station.proofs.Filled.{lent}
+use mathlib.Core.Path.{refl}
+use Rattle.station.proofs.Filled.{fill_none, fill_more, fill_all}
 use Rattle.station.proofs.values_of.Goals as goal
 
+pub loop-i-init : goal.loop-i-init
+loop-i-init c = fill_none _ _ _ (omega arith) refl
+
+pub loop-i-preserved : goal.loop-i-preserved
+loop-i-preserved c = fill_more _ _ _ _ _ _ c.loop-i-test.true c.value.ensures c.loop-i.invariant
+
 pub returns : goal.returns
-returns c =
-    lent _ slot_value (record { ref_ptr = c.args.slots.ref_ptr; now = (slot_of (OfTweener (new_tweener zero_f))) }) c.each_ref.ensures.items (omega arith) c.map.ensures.items (λ p x y q h. search (rules, h))
+returns c = fill_all _ _ _ _ c.loop-i-test.false c.loop-i.invariant
