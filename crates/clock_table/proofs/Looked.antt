@@ -1,6 +1,6 @@
 -- What is read of the clock that `look` gives is what the definition reads off the table. Assumes nothing.
 use Prim.Native.Nat.{ℕ, zero, suc}
-use mathlib.Core.Path.{◌≡◌, refl}
+use mathlib.Core.Path.{◌≡◌, refl, ap, ◌∙◌}
 use mathlib.Core.List.{List, [], ◌∷◌}
 use Rattle.judge.specs.Answer.{Answer, accepted, refused, on_accepted}
 use Rattle.ids.specs.Lists.{read_at}
@@ -18,10 +18,14 @@ module _ {A B : Type 0} (h : A → B) (none : A) (g : Clock → A) where
   read_on (c ∷ cs) (suc i) = read_on cs i
 
 module _ {B : Type 0} (f : Clock → B) where
-  of_entry : (cs : List Clock) (w : Answer ℕ) → on_accepted (λ (p : ℕ × Clock). f p.1) (on_entry refused cs w (λ i c. accepted (i, c))) ≡ on_entry refused cs w (λ i c. accepted (f c))
-  of_entry cs (refused n) = refl
-  of_entry cs (accepted i) = read_on (on_accepted (λ (p : ℕ × Clock). f p.1)) _ (λ c. accepted (i, c)) cs i
+  -- what is read of the clock in an answer of `look`
+  abbrev of_clock : Answer (ℕ × Clock) → Answer B
+  of_clock = on_accepted (λ (p : ℕ × Clock). f p.1)
 
-  pub looked : (t : Clocks) (id : ClockId) → on_accepted (λ (p : ℕ × Clock). f p.1) (look_of t id) ≡ read_found clock_table t (where_is clock_table t id) f
+  of_entry : (cs : List Clock) (w : Answer ℕ) → of_clock (on_entry refused cs w (λ i c. accepted (i, c))) ≡ on_entry refused cs w (λ i c. accepted (f c))
+  of_entry cs (refused n) = refl
+  of_entry cs (accepted i) = read_on of_clock _ (λ c. accepted (i, c)) cs i
+
+  pub looked : (t : Clocks) (id : ClockId) {a : Answer (ℕ × Clock)} → a ≡ look_of t id → of_clock a ≡ read_found clock_table t (where_is clock_table t id) f
   unfolding look_of
-  looked t id = of_entry t.clocks (where_is clock_table t id)
+  looked t id e = ap of_clock e ∙ of_entry t.clocks (where_is clock_table t id)

@@ -1,17 +1,14 @@
 -- `speed` meets its contract: it is read of the clock that `look` gives. Assumes nothing.
-use mathlib.Core.Path.{ap, ◌∙◌}
-use Prim.Native.Nat.{ℕ}
-use Rattle.judge.specs.Answer.{on_accepted}
+use mathlib.Core.Path.{◌∙◌}
 use Rattle.judge.proofs.Judged.{handed_on}
-use Rattle.clock.specs.declared.Clock.{Clock}
 use Rattle.clock_table.specs.ClockTables.{clock_speed_of}
 use Rattle.clock_table.proofs.Looked.{looked}
 use Rattle.clock_table.proofs.Clocks.speed.Goals as goal
 
 pub returns-in_err-c : goal.returns-in_err-c
 unfolding clock_speed_of
-returns-in_err-c c = handed_on _ _ c.from_residual.ensures ∙ ap (on_accepted (λ (p : ℕ × Clock). (λ (k : Clock). k.speed.raw) p.1)) c.in_err-c.ensures ∙ looked (λ (k : Clock). k.speed.raw) c.args.self.now c.args.id
+returns-in_err-c c = handed_on _ _ c.from_residual.ensures ∙ looked (λ k. k.speed.raw) c.args.self.now c.args.id c.in_err-c.ensures
 
 pub returns : goal.returns
 unfolding clock_speed_of
-returns c = ap (on_accepted (λ (p : ℕ × Clock). (λ (k : Clock). k.speed.raw) p.1)) c.in_ok-c.ensures ∙ looked (λ (k : Clock). k.speed.raw) c.args.self.now c.args.id
+returns c = looked (λ k. k.speed.raw) c.args.self.now c.args.id c.in_ok-c.ensures
